@@ -9,11 +9,10 @@ use Rattle.gb_typing.specs.Sequents.{IsTypedSequent}
 use Rattle.gb_typing.specs.Scopes.{context_of}
 use Rattle.gb_typing.specs.Naming.{NoName}
 use Rattle.gb_models.specs.Speaking.{ScopeSpeaks}
-use Rattle.gb_mods_laws.specs.Members.{CallsAreNamed}
+use Rattle.gb_mods_laws.specs.Members.{CallsAreDeclared}
 use Rattle.gb_theory.specs.Built.{Session}
 use Rattle.gb_theory.specs.Outcome.{IsOutcome}
 use Rattle.gb_accepted.specs.Holding.{Lemma, IsProved, IsPromise, lemmas_in, IsPromised}
-use Rattle.gb_accepted.proofs.Calls.{calls_named}
 use Rattle.gb_accepted.specs.Scopes.{EndedLoopsAreGood, FootprintsAreMeant}
 use Rattle.gb_accepted.proofs.Grounds.{Grounds, IsTyped}
 use Rattle.gb_accepted.proofs.Runs.{outcome_is_good}
@@ -31,17 +30,16 @@ module _ (o : Grounds) where
   each_promised [] h = tt
   each_promised (l ∷ ls) h = (promised l h.0, each_promised ls h.1)
 
-  -- the procedures of an accepted script call one another by the names of their modules
-  pub scope_named : (text : List ℕ) (s : Session) → IsOutcome text (given s) → CallsAreNamed s.scope
-  scope_named text s outcome = calls_named s.scope (outcome_is_good o text s outcome).calls
+  -- what is known of the calls in typed scopes, of ended modules and of footprints is known of the scope of an accepted script
+  pub scope_calls : ((ds : Declarations) → IsTyped ds → CallsAreDeclared ds) → (text : List ℕ) (s : Session) → IsOutcome text (given s) → CallsAreDeclared s.scope
+  scope_calls law text s outcome = let g = outcome_is_good o text s outcome in law s.scope g.typed
 
-  -- so what is known of ended modules, and of footprints, where they do so, is known of its scope
-  pub scope_ended : ((ds : Declarations) → IsTyped ds → IsSound (declared ds) → ScopeSpeaks NoName (declared ds) → CallsAreNamed ds → EndedLoopsAreGood ds) →
+  pub scope_ended : ((ds : Declarations) → IsTyped ds → IsSound (declared ds) → ScopeSpeaks NoName (declared ds) → EndedLoopsAreGood ds) →
       (text : List ℕ) (s : Session) → IsOutcome text (given s) → EndedLoopsAreGood s.scope
-  scope_ended law text s outcome = let g = outcome_is_good o text s outcome in law s.scope g.typed g.sound g.speaks (scope_named text s outcome)
+  scope_ended law text s outcome = let g = outcome_is_good o text s outcome in law s.scope g.typed g.sound g.speaks
 
-  pub scope_footprints : ((ds : Declarations) → IsTyped ds → CallsAreNamed ds → FootprintsAreMeant ds) → (text : List ℕ) (s : Session) → IsOutcome text (given s) → FootprintsAreMeant s.scope
-  scope_footprints law text s outcome = let g = outcome_is_good o text s outcome in law s.scope g.typed (scope_named text s outcome)
+  pub scope_footprints : ((ds : Declarations) → IsTyped ds → FootprintsAreMeant ds) → (text : List ℕ) (s : Session) → IsOutcome text (given s) → FootprintsAreMeant s.scope
+  scope_footprints law text s outcome = let g = outcome_is_good o text s outcome in law s.scope g.typed
 
   -- an accepted script keeps what is promised
   pub all_promised : (text : List ℕ) (s : Session) → IsOutcome text (given s) → IsPromised s

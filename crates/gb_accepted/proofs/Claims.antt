@@ -1,7 +1,6 @@
 -- Claims: the first goal of an open proof may be worked on, and where none is left, what is claimed stands.
 use Rattle.std.proofs.Common.{◌≡◌, ℕ, Bool, true, false, is_some, ◌||◌, bytes_eq, if◌then◌else◌, List, [], ◌∷◌, ◌++◌, append-nil, Option, Some, None, refl, ap, sym, ◌∙◌, subst}
 use Rattle.std.specs.List.{AllByRecursion}
-use Rattle.gb_core.specs.declared.ty.Ty.TheVariants as ty
 use Rattle.gb_terms.specs.declared.decl.Proc.{Proc}
 use Rattle.gb_goal.specs.Scope.{Declarations, entry_of, path_of, proc_of, procedure_of, module_of}
 use Rattle.gb_goal.specs.declared.scope.Binder.{Binder}
@@ -18,19 +17,16 @@ use Rattle.gb_holds.proofs.Lists.{declared-append}
 use Rattle.gb_holds.proofs.Scopes.{gained_lemma, gained_proof}
 use Rattle.gb_models.proofs.StayingLoops.{found_named_of, module_there}
 use Rattle.gb_typing.specs.Formulas.{IsKnown}
-use Rattle.gb_typing.specs.Modules.{FunctorType, Interface, ProcedureType, of_complete, procedure_of as procedure_in}
 use Rattle.gb_typing.specs.Scopes.{nothing, context_of, is_declared, HasProcedure, IsTypedScope}
-use Rattle.gb_typing.proofs.Located.{typed_there}
+use Rattle.gb_typing.proofs.Located.{typed_in_scope}
 use Rattle.gb_elab_laws.proofs.Scopes.{typed_after}
 use Rattle.gb_smt_laws.proofs.Split.{each_left}
 use Rattle.gb_smt_laws.proofs.Used.{each_together}
-use Rattle.gb_variants.specs.Variants.{over_none, zero_of}
 use Rattle.gb_mods_laws.proofs.Shown.{each_shown}
 use Rattle.gb_theory.specs.Built.{Session, with_ended, with_proved}
 use Rattle.gb_state.specs.declared.state.Claim.{Claim}
 use Rattle.gb_state.specs.declared.state.Claim.TheVariants as claim
 use Rattle.gb_accepted.specs.Holding.{IsProved, lemmas_in, names_of}
-use Rattle.gb_accepted.proofs.Calls.{calls_with}
 use Rattle.gb_accepted.proofs.Grounds.{IsGoalThatEnds, Grounds, IsTyped}
 use Rattle.gb_accepted.proofs.Good.{IsGoodLemma, IsGoodTermination, IsGoodClaim, IsGood, StatesProcedures}
 use Rattle.gb_accepted.proofs.Later.{each_with, lemmas_append, name_added, proved_with}
@@ -63,14 +59,6 @@ undeclared (d ∷ ds) n e = step (bytes_eq n d.0) (undeclared ds n) e
     step true k e = absurd (cc)
     step false k e = k e
 
-has_procedure : (o : Option Interface) (f : Name) (t : ProcedureType) → procedure_in o f ≡ Some t → HasProcedure o f
-has_procedure None f t e = absurd (cc)
-has_procedure (Some i) f t e = by_lacks i.lacks e
-  where
-    by_lacks : (ls : List FunctorType) → of_complete ls i.procedures f ≡ Some t → HasProcedure (Some i) f
-    by_lacks [] e = subst IsKnown (sym e) tt
-    by_lacks (l ∷ ls) e = absurd (cc)
-
 module _ (ds : Declarations) (scoped : IsTypedScope (declared ds)) (f : ProcName) (a : Proc) (there : procedure_of ds (named f) ≡ Some a) where
   abbrev IsGoodAt : Option Proc → Interpretation → Type 0
   IsGoodAt o k = ProcedureIsGood (setting (declared ds) k) o
@@ -83,9 +71,7 @@ module _ (ds : Declarations) (scoped : IsTypedScope (declared ds)) (f : ProcName
       (subst (λ o. InEachModel (declared ds) (IsGoodAt o)) (sym x.procedure) h))
 
   has : HasProcedure ((context_of (declared ds)).modules.interfaces f.module) f.name
-  has =
-      let k = typed_there ds scoped (over_none (zero_of ty.Bool)) tt [] (named f) a there in
-      has_procedure ((context_of (declared ds)).modules.interfaces f.module) f.name _ k.type
+  has = let k = typed_in_scope ds scoped (named f) a there in subst IsKnown (sym k.type) tt
 
   proof_typed : entry_of ds (path_of f) ≡ None → IsTypedScope (declared (ds ++ (path_of f, entry.Terminating f) ∷ []))
   proof_typed e =
@@ -109,7 +95,6 @@ ended_good o s f g h = step (entry_of s.scope (path_of f)) refl
       sound = g.sound;
       lemmas = record { names = g.lemmas.names; proved = g.lemmas.proved };
       speaks = g.speaks;
-      calls = g.calls;
       statements = g.statements;
       proof = tt;
     })
@@ -123,7 +108,6 @@ ended_good o s f g h = step (entry_of s.scope (path_of f)) refl
             proved = subst (AllByRecursion IsProved) (sym same) g.lemmas.proved;
           };
           speaks = (o.models.parts s.scope ((path_of f, entry.Terminating f) ∷ [])).1 (g.speaks, (tt, tt));
-          calls = calls_with s.scope ((path_of f, entry.Terminating f) ∷ []) g.calls (tt, tt);
           statements = subst (AllByRecursion StatesProcedures) (sym same) g.statements;
           proof = tt;
         })
@@ -140,7 +124,6 @@ lemma_good o s n q bs g h =
         proved = proved_with s.scope n q bs g.lemmas.proved g.typed h.statement holds;
       };
       speaks = (o.models.parts s.scope ((n, entry.Lemma q bs) ∷ [])).1 (g.speaks, (tt, tt));
-      calls = calls_with s.scope ((n, entry.Lemma q bs) ∷ []) g.calls (tt, tt);
       statements = each_with s.scope n q bs StatesProcedures g.statements h.procedures;
       proof = tt;
     }

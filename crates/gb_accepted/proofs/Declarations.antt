@@ -1,9 +1,14 @@
 -- Modules, lemmas and the words of a proof keep sessions good.
-use Rattle.std.proofs.Common.{◌≡◌, ℕ, Bool, true, false, List, [], ◌∷◌, ◌++◌, Some, None, refl, ap, sym, ◌∙◌, subst}
+use Rattle.std.proofs.Common.{◌≡◌, ℕ, Bool, true, false, List, [], ◌∷◌, ◌++◌, Option, Some, None, refl, ap, sym, ◌∙◌, subst}
 use Rattle.gb_core.specs.declared.place.Place.{Place}
+use Rattle.gb_core.specs.declared.refusal.Why.{Why}
 use Rattle.gb_core.specs.declared.refusal.Why.TheVariants.{NoGoal}
+use Rattle.gb_terms.specs.declared.decl.Module.{Module}
+use Rattle.gb_terms.specs.declared.decl.Param.{Param}
+use Rattle.gb_terms.specs.declared.decl.Proc.{Proc}
 use Rattle.gb_goal.specs.Goal.{goal_of}
-use Rattle.gb_goal.specs.Scope.{Declarations, declarations_in, entry_of, proc_of, procedure_of, ClaimNothing}
+use Rattle.gb_goal.specs.Scope.{Declarations, as_module, declarations_in, entry_of, proc_if_plain, proc_in, proc_of, procedure_of, ClaimNothing}
+use Rattle.gb_goal.specs.declared.scope.Entry.{Entry}
 use Rattle.gb_goal.specs.declared.scope.Entry.TheVariants as entry
 use Rattle.gb_goal.specs.declared.scope.ProcName.{ProcName}
 use Rattle.gb_goal.specs.declared.sequent.Sequent.{Sequent}
@@ -18,7 +23,8 @@ use Rattle.gb_holds.specs.Truth.{has_module}
 use Rattle.gb_holds.proofs.Scopes.{gained_others}
 use Rattle.gb_goal.specs.Answers.{given_or}
 use Rattle.gb_goal.specs.Answers.Answer.{given}
-use Rattle.gb_names.specs.Judgments.{Path, declared_module, procedure_path}
+use Rattle.gb_meaning.specs.Names.{Name}
+use Rattle.gb_names.specs.Judgments.{Path, declared_module, module_in, procedure_path, whole}
 use Rattle.gb_names.specs.Names.{no_declared, no_procedure, unless_unproved}
 use Rattle.gb_ended.specs.Ended.{first_unproved_in}
 use Rattle.gb_elab_prog.specs.Entries.{entries_given}
@@ -31,14 +37,11 @@ use Rattle.gb_typing.proofs.Lifted.{each}
 use Rattle.gb_amb.proofs.Cases.{conclusion_formula}
 use Rattle.gb_elab_laws.specs.Procedures.{IsOfProcedures}
 use Rattle.gb_elab_laws.proofs.Given.{given_bind, given_is, if_given, some_given}
-use Rattle.gb_elab_laws.proofs.Judged.{in_module, module_is}
 use Rattle.gb_variants.specs.Operand.{Found, ended_at, operand, operand_by, proc_name, procedure_at}
 use Rattle.gb_variants.specs.Variants.{goals_of}
 use Rattle.gb_theory.specs.Built.{Session, OpenProof, with_entries, with_goals}
 use Rattle.gb_theory.specs.Limits.{declaration_limit, each_limit, all_limit}
 use Rattle.gb_theory.specs.Commands.{within, allowed, all_allowed, outside, brought, requires_files, assumes, brings, declares, loops_opened, opens, opens_loops, begun, ended}
-use Rattle.gb_elab_laws.specs.Calling.{EntriesCall}
-use Rattle.gb_accepted.proofs.Calls.{calls_with}
 use Rattle.gb_accepted.proofs.Given.{nothing_given, given_outside}
 use Rattle.gb_accepted.proofs.Grounds.{Grounds, IsTypedGoalOf, around}
 use Rattle.gb_typing.specs.Naming.{NoName}
@@ -50,13 +53,12 @@ use Rattle.gb_accepted.proofs.LoopProofs.{named, IsGoodLoops, loops_begin}
 
 -- a session in which more is declared, none of which is a lemma
 with_more : Grounds → (s : Session) (added : Declarations) → s.proof ≡ None → IsGood s → IsTypedScope (declared (s.scope ++ added)) → ClaimNothing added → ScopeSpeaks NoName (declared added) →
-    EntriesCall (s.scope ++ added) added → IsGood (with_entries s added)
-with_more o s added none g typed others speaks calls = record {
+    IsGood (with_entries s added)
+with_more o s added none g typed others speaks = record {
   typed = typed;
   sound = gained_others s.scope added others g.sound;
   lemmas = record { names = names_stay s.scope added others ∙ g.lemmas.names; proved = proved_later s.scope added others g.lemmas.proved };
   speaks = (o.models.parts s.scope added).1 (g.speaks, speaks);
-  calls = calls_with s.scope added g.calls calls;
   statements = each_later s.scope added others StatesProcedures g.statements;
   proof = subst (IsGoodIfOpen _) (sym none) tt;
 }
@@ -67,8 +69,7 @@ brings_keeps o s t place next g e =
     let b = given_bind (entries_given s.scope t) _ next a.2 in
     let c = given_bind (within (declaration_limit (declarations_in s.scope)) place) _ next b.2 in
     subst IsGood (given_is _ _ c.2)
-    (with_more o s b.0 (given_outside s.proof place a.0 a.1) g (o.typing.entries_added s.scope g.typed t b.0 b.1) (o.typing.others s.scope t b.0 b.1) (o.typing.entries_speak s.scope g.typed t b.0 b.1)
-    (o.typing.entries_call s.scope g.typed t b.0 b.1))
+    (with_more o s b.0 (given_outside s.proof place a.0 a.1) g (o.typing.entries_added s.scope g.typed t b.0 b.1) (o.typing.others s.scope t b.0 b.1) (o.typing.entries_speak s.scope g.typed t b.0 b.1))
 
 pub requires_keeps : (s : Session) (names : List Node) (place : Place) (next : Session) → IsGood s → requires_files s names place ≡ given next → IsGood next
 requires_keeps s names place next g e =
@@ -85,8 +86,7 @@ declares_keeps o s t place next g e =
     let b = given_bind (module_given s.scope t) _ next a.2 in
     let c = given_bind (within (declaration_limit (declarations_in s.scope)) place) _ next b.2 in
     subst IsGood (given_is _ _ c.2)
-    (with_more o s ((b.0.name, entry.Module b.0) ∷ []) (given_outside s.proof place a.0 a.1) g (o.typing.module_added s.scope g.typed t b.0 b.1) (refl, tt) (o.typing.module_speaks s.scope g.typed t b.0 b.1, tt)
-    (o.typing.module_calls s.scope t b.0 b.1, tt))
+    (with_more o s ((b.0.name, entry.Module b.0) ∷ []) (given_outside s.proof place a.0 a.1) g (o.typing.module_added s.scope g.typed t b.0 b.1) (refl, tt) (o.typing.module_speaks s.scope g.typed t b.0 b.1, tt))
 
 -- a statement about procedures has no body
 statement_ends : Grounds → (ds : Declarations) (q : Sequent) → IsTypedGoalOf ds q → IsOfProcedures q → SequentEnds (declared ds) q
@@ -114,7 +114,6 @@ opens_keeps o s t name place next g same e =
       sound = g.sound;
       lemmas = record { names = g.lemmas.names; proved = g.lemmas.proved };
       speaks = g.speaks;
-      calls = g.calls;
       statements = g.statements;
       proof = record {
         free = subst (λ n. is_declared (declared s.scope) n ≡ false) same (o.typing.free s.scope t b.0 b.1);
@@ -124,6 +123,23 @@ opens_keeps o s t name place next g same e =
         procedures = procedures;
       };
     })
+
+whole_is : (ps : List Param) (k m : Module) (p : Place) → whole ps k p ≡ given m → (ps ≡ []) × (k ≡ m)
+whole_is [] k m p h = (refl, given_is k m h)
+whole_is (q ∷ qs) k m p h = cc
+
+-- the module of a name has no parameters
+module_is : (o : Option Entry) (w : Why) (p : Place) (m : Module) → module_in o w p ≡ given m → (o ≡ Some (entry.Module m)) × (m.params ≡ [])
+module_is (Some (entry.Module k)) w p m h =
+    let q = whole_is k.params k m p h in (ap (λ z. Some (entry.Module z)) q.1, subst (λ (z : Module). z.params ≡ []) q.1 q.0)
+module_is (Some _) w p m h = cc
+module_is None w p m h = cc
+
+without_params : (ps : List Param) (qs : List Proc) (n : Name) (f : Proc) → ps ≡ [] → proc_of qs n ≡ Some f → proc_if_plain ps qs n ≡ Some f
+without_params ps qs n f k h = ap (λ z. proc_if_plain z qs n) k ∙ h
+
+in_module : (o : Option Entry) (m : Module) (n : Name) (f : Proc) → o ≡ Some (entry.Module m) → m.params ≡ [] → proc_of m.procs n ≡ Some f → proc_in (as_module o) n ≡ Some f
+in_module o m n f e k h = ap (λ z. proc_in (as_module z) n) e ∙ without_params m.params m.procs n f k h
 
 -- the procedure that is named is declared
 named_there : (ds : Declarations) (f : Path) (p : Place) (x : Found) → procedure_at ds f p ≡ given x → procedure_of ds (named x.0) ≡ Some x.1
@@ -163,7 +179,6 @@ opens_loops_keeps o s t place next g e =
       sound = g.sound;
       lemmas = record { names = g.lemmas.names; proved = g.lemmas.proved };
       speaks = g.speaks;
-      calls = g.calls;
       statements = g.statements;
       proof = begins;
     })
@@ -175,7 +190,6 @@ begun_keeps s p place next g h e =
       sound = g.sound;
       lemmas = record { names = g.lemmas.names; proved = g.lemmas.proved };
       speaks = g.speaks;
-      calls = g.calls;
       statements = g.statements;
       proof = h;
     })

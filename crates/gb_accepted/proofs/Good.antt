@@ -12,7 +12,6 @@ use Rattle.gb_typing.specs.Scopes.{context_of, is_declared, IsTypedScope}
 use Rattle.gb_theory.specs.Built.{Session, OpenProof, fresh_session}
 use Rattle.gb_typing.specs.Naming.{NoName}
 use Rattle.gb_models.specs.Speaking.{ScopeSpeaks}
-use Rattle.gb_elab_laws.specs.Calling.{EntriesCall}
 use Rattle.gb_elab_laws.specs.Procedures.{IsOfProcedures}
 use Rattle.gb_state.specs.declared.state.Claim.{Claim}
 use Rattle.gb_state.specs.declared.state.Claim.TheVariants as claim
@@ -52,9 +51,8 @@ pub record IsGood (s : Session) : Type 0 where
   pub sound : IsSound (declared s.scope)
   pub lemmas : AllHold s
   pub speaks : ScopeSpeaks NoName (declared s.scope)
-  pub calls : EntriesCall s.scope s.scope
   pub statements : AllByRecursion StatesProcedures (lemmas_in [] s.scope)
   pub proof : IsGoodIfOpen s.scope s.proof
 
 pub fresh_is_good : IsGood fresh_session
-fresh_is_good = record { typed = tt; sound = tt; lemmas = record { names = refl; proved = tt }; speaks = tt; calls = tt; statements = tt; proof = tt }
+fresh_is_good = record { typed = tt; sound = tt; lemmas = record { names = refl; proved = tt }; speaks = tt; statements = tt; proof = tt }

@@ -16,7 +16,6 @@ pub mod StepModules
 pub mod Grounds
 pub mod Given
 pub mod LoopProofs
-pub mod Calls
 pub mod Good
 pub mod Later
 pub mod Kept

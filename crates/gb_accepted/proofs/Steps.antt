@@ -63,7 +63,6 @@ continued_keeps s p rest qs place next g h e =
       sound = g.sound;
       lemmas = record { names = g.lemmas.names; proved = g.lemmas.proved };
       speaks = g.speaks;
-      calls = g.calls;
       statements = g.statements;
       proof = h;
     })

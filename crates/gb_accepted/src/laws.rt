@@ -2,7 +2,7 @@
 
 ghost use Rattle.std.specs.Prelude.{ℕ, List};
 ghost use Rattle.gb_goal.specs.Answers.Answer.{given};
-ghost use Rattle.gb_mods_laws.specs.Members.{CallsAreNamed};
+ghost use Rattle.gb_mods_laws.specs.Members.{CallsAreDeclared};
 ghost use Rattle.gb_theory.specs.Built.{Session};
 ghost use Rattle.gb_theory.specs.Outcome.{IsOutcome};
 ghost use Rattle.gb_accepted.specs.Holding.{IsPromised};
@@ -21,11 +21,11 @@ use gb_typing::rule_laws::{contexts, sequents};
 /// declared once; it is sound; and the lemmas that the session names are those of the scope, in their order, each of
 /// which is typed and holds over the declarations before it. These have a model; and an equivalence of two procedures gives,
 /// in each model and from each two related memories, a coupling of both outputs, with its marginals compared at each output.
-/// The procedures of the scope call one another by the names of their modules. So each loop that an ended module reaches is good in
-/// each model, and the footprint of a module, as it is computed, is that of the meaning.
+/// The procedures of the scope call declared ones alone. Each loop that a procedure of ended modules reaches is good in each model, and the
+/// footprint of a module expression that lacks nothing, as it is computed, is that of the meaning.
 pub fn accepted_scripts()
     ensures promised { (text : List ℕ) (s : Session) → IsOutcome text (given s) → IsPromised s }
-    ensures named { (text : List ℕ) (s : Session) → IsOutcome text (given s) → CallsAreNamed s.scope }
+    ensures calls { (text : List ℕ) (s : Session) → IsOutcome text (given s) → CallsAreDeclared s.scope }
     ensures ended { (text : List ℕ) (s : Session) → IsOutcome text (given s) → EndedLoopsAreGood s.scope }
     ensures footprints { (text : List ℕ) (s : Session) → IsOutcome text (given s) → FootprintsAreMeant s.scope }
 {
@@ -67,6 +67,7 @@ pub fn accepted_scripts()
     gb_mods_laws::loop_laws::entered();
     gb_mods_laws::loop_laws::proved_loops();
     gb_mods_laws::loop_laws::ended_modules();
+    gb_mods_laws::footprint_laws::declared_calls();
     gb_mods_laws::footprint_laws::footprints();
     gb_loops::while_loop::while_is_sound();
     gb_amb::laws::steps();

@@ -100,29 +100,32 @@ fn two_entered(
     equiv(alloc, left, right, pre, post)
 }
 
-/// The subgoals of `proc`: from concrete procedures of modules without parameters to their bodies. Parameters are locals, and the
-/// postcondition speaks of the terms that the procedures return in place of their results. Refused with `Shape` at any other goal.
+/// The subgoals of `proc`: from concrete procedures to their bodies. Parameters are locals, and the postcondition speaks of the terms
+/// that the procedures return in place of their results. Refused with `Shape` at any other goal.
 pub fn proc(alloc: Global, goal: &Sequent, scope: &Scope) -> Result<Sequents, Refused>
     ensures { Answers (answered (proc_row scope.now) goal.now) result }
 {
     let conclusion = match goal_of(&goal.conclusion) {
         Goal::Hoare(Code::Procedure(named), pre, post) => {
-            let Some(proc) = scope.procedure(named) else {
+            let Some(proc) = scope.procedure(alloc, named)? else {
                 return Err(no_shape());
             };
-            one_entered(alloc, proc, pre, post)
+            one_entered(alloc, proc.get(), pre, post)
         }
         Goal::Phoare(Code::Procedure(named), rel, pre, post, bound) => {
-            let Some(proc) = scope.procedure(named) else {
+            let Some(proc) = scope.procedure(alloc, named)? else {
                 return Err(no_shape());
             };
-            chance_entered(alloc, proc, rel, pre, post, bound)
+            chance_entered(alloc, proc.get(), rel, pre, post, bound)
         }
         Goal::Equiv(Code::Procedure(left), Code::Procedure(right), pre, post) => {
-            let (Some(left), Some(right)) = (scope.procedure(left), scope.procedure(right)) else {
+            let Some(left) = scope.procedure(alloc, left)? else {
                 return Err(no_shape());
             };
-            two_entered(alloc, left, right, pre, post)
+            let Some(right) = scope.procedure(alloc, right)? else {
+                return Err(no_shape());
+            };
+            two_entered(alloc, left.get(), right.get(), pre, post)
         }
         _ => return Err(no_shape()),
     };

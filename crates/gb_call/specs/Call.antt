@@ -44,7 +44,7 @@ abbrev pub callee_seen : seen.Callee → Callee
 callee_seen k = record { call = call_seen k.call; declared = k.declared.now; written = k.written.now }
 
 abbrev pub known_seen : Known → Callee
-known_seen k = record { call = call_seen k.call; declared = k.declared.now; written = k.written }
+known_seen k = record { call = call_seen k.call; declared = k.declared; written = k.written }
 
 -- what the call changes, where these globals are read after it
 abbrev pub outcome : Side → Callee → List TypedVariable → Outcome

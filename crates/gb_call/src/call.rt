@@ -351,14 +351,14 @@ fn chances_by_callee(
 #[derive(Drop)]
 pub struct Known<'a> {
     pub call: Last<'a>,
-    pub declared: &'a Proc,
+    pub declared: Shared<Proc>,
     pub written: Vars,
 }
 
 /// The same, if there is a call, and it is known.
 pub fn known_call<'a>(
     alloc: Global,
-    scope: &'a Scope,
+    scope: &Scope,
     call: Option<Last<'a>>,
 ) -> Result<Option<Known<'a>>, AllocError>
     ensures { IfOk result (λ made. option_map known_seen made ≡ callee_of scope.now (option_map call_seen call.entry)) }
@@ -366,7 +366,7 @@ pub fn known_call<'a>(
     let Some(call) = call else {
         return Ok(None);
     };
-    let Some(declared) = scope.procedure(call.procedure.get()) else {
+    let Some(declared) = scope.procedure(alloc, call.procedure.get())? else {
         return Ok(None);
     };
     let Some(written) = proc_writes(alloc, scope, call.procedure)? else {
@@ -385,7 +385,7 @@ pub fn callee_of<'a>(known: &'a Known<'a>) -> Callee<'a>
 {
     Callee {
         call: known.call,
-        declared: known.declared,
+        declared: known.declared.get(),
         written: known.written.as_slice(),
     }
 }

@@ -1,5 +1,5 @@
 -- Names at arguments.
-use Rattle.std.proofs.Common.{◌≡◌, ℕ, zero, suc, ◌≤◌, ◌<◌, List, [], ◌∷◌, length, get_or, take, drop, ◌-◌, Option, refl, ap, sym, subst, ◌∙◌, arith, length-drop, take_all}
+use Rattle.std.proofs.Common.{◌≡◌, ◌≤◌, ◌<◌, List, [], ◌∷◌, length, get_or, drop, Option, refl, ap, sym, ◌∙◌, arith}
 use Rattle.gb_core.specs.declared.place.Place.{Place}
 use Rattle.gb_core.specs.declared.ty.Ty.{Ty}
 use Rattle.gb_names.specs.declared.bindings.Binding.{Binding}
@@ -9,23 +9,6 @@ use Rattle.gb_script.specs.Tree.{head_of, text_of, parts_of}
 use Rattle.gb_names.specs.Environment.{Environment}
 use Rattle.gb_names.specs.Names.{path}
 use Rattle.gb_elab.specs.Forms.{applied, applied_form, application, with_meanings}
-use denote.Param.Weighed.{most}
-
--- what is left of a list is no deeper
-pub left_most : {A : Type 0} (size : A → ℕ) (n : ℕ) (xs : List A) → most size (drop n xs) ≤ most size xs
-left_most size zero xs = omega arith
-left_most size (suc n) [] = omega arith
-left_most size (suc n) (x ∷ xs) = let h : most size (drop n xs) ≤ most size xs = left_most size n xs in omega arith
-
--- a list behind its first
-abbrev pub rest : {A : Type 0} → List A → List A
-rest xs = take (length xs - 1) (drop 1 xs)
-
-pub rest_is : {A : Type 0} (xs : List A) → rest xs ≡ drop 1 xs
-rest_is xs = take_all (length xs - 1) (drop 1 xs) (omega (arith, length-drop 1 xs))
-
-pub rest_most : {A : Type 0} (size : A → ℕ) (xs : List A) → most size (rest xs) ≤ most size xs
-rest_most size xs = subst (λ ys. most size ys ≤ most size xs) (sym (rest_is xs)) (left_most size 1 xs)
 
 -- nothing is behind the first of no elements
 pub none_behind : {A : Type 0} (xs : List A) → length xs < 1 → drop 1 xs ≡ xs

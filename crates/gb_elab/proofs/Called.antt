@@ -1,5 +1,5 @@
 -- Arguments of calls, and probabilities.
-use Rattle.std.proofs.Common.{◌≡◌, ◌-◌, List, [], ◌∷◌, length, slice_get, Option, Some, None, refl, ap, ◌∙◌}
+use Rattle.std.proofs.Common.{◌≡◌, ◌-◌, List, [], ◌∷◌, length, slice_get, Option, Some, None, refl, ap, sym, ◌∙◌}
 use Rattle.gb_core.specs.declared.place.Place.{Place}
 use Rattle.gb_core.specs.declared.refusal.Why.TheVariants.{Syntax}
 use Rattle.gb_core.specs.declared.ty.Ty.{Ty}
@@ -15,41 +15,48 @@ use Rattle.gb_script.specs.Tree.{head_of, text_of, parts_of, place_of}
 use Rattle.gb_goal.specs.Answers.{◌>>=◌}
 use Rattle.gb_goal.specs.Answers.Answer.{given, refused}
 use Rattle.gb_names.specs.Environment.{Environment}
-use Rattle.gb_names.specs.Judgments.{Named}
+use Rattle.gb_names.specs.Judgments.{Named, called}
 use Rattle.gb_names.proofs.Answers.{leads_on}
 use Rattle.gb_elab.specs.OneProcedure.{after_one}
-use Rattle.gb_elab.specs.Probability.{before_call, called, chance, chance_here}
+use Rattle.gb_elab.specs.Probability.{before_call, chance, chance_here}
 use Rattle.gb_names.specs.Names.{memory_at}
 use Rattle.gb_elab.specs.Forms.{Part, arguing, arguments_of, elaborated, last_arguments, listed, meant, probability, with_meanings}
 use Rattle.gb_elab.proofs.Elaborated.{arguments_of_is, length_meanings, meant_at, none_at}
 
 module _ (t : Node) (vs : List TypedName) (p : Place) (at : Environment) (bound : List Binding) where
-  at_head : (k : Head) → head_of t ≡ k → arguments_of t vs p at bound ≡ arguing k (with_meanings (parts_of t)) vs p at bound
+  pub at_head : (k : Head) → head_of t ≡ k → arguments_of t vs p at bound ≡ arguing k (with_meanings (parts_of t)) vs p at bound
   at_head k e = arguments_of_is t vs p at bound ∙ ap (λ h. arguing h (with_meanings (parts_of t)) vs p at bound) e
 
   -- the arguments of a list are its parts
   pub list_is : head_of t ≡ head.List → arguments_of t vs p at bound ≡ listed p at bound vs (with_meanings (parts_of t))
   list_is e = at_head head.List e
 
-  -- those of a call are those of its last part
-  pub call_is : (x : Node) → head_of t ≡ head.Call → slice_get (parts_of t) (length (parts_of t) - 1) ≡ Some x → arguments_of t vs p at bound ≡ arguments_of x vs p at bound
-  call_is x e h =
-      at_head head.Call e
-      ∙ ap (λ n. last_arguments (slice_get (with_meanings (parts_of t)) (n - 1)) vs p at bound) (length_meanings (parts_of t))
-      ∙ ap (λ o. last_arguments o vs p at bound) (meant_at (parts_of t) (length (parts_of t) - 1) x h)
+  in_last : (ts : List Node) → ts ≡ parts_of t → last_arguments (slice_get (with_meanings (parts_of t)) (length (with_meanings (parts_of t)) - 1)) vs p at bound ≡ last_arguments (slice_get (with_meanings ts) (length ts - 1)) vs p at bound
+  in_last ts h =
+      ap (λ n. last_arguments (slice_get (with_meanings (parts_of t)) (n - 1)) vs p at bound) (length_meanings (parts_of t))
+      ∙ ap (λ us. last_arguments (slice_get (with_meanings us) (length us - 1)) vs p at bound) (sym h)
 
-  pub no_list : head_of t ≡ head.Call → slice_get (parts_of t) (length (parts_of t) - 1) ≡ None → arguments_of t vs p at bound ≡ refused Syntax p
-  no_list e h =
-      at_head head.Call e
-      ∙ ap (λ n. last_arguments (slice_get (with_meanings (parts_of t)) (n - 1)) vs p at bound) (length_meanings (parts_of t))
-      ∙ ap (λ o. last_arguments o vs p at bound) (none_at (parts_of t) (length (parts_of t) - 1) h)
+  -- those of a call stand in its last part
+  pub call_is : (ts : List Node) → head_of t ≡ head.Call → ts ≡ parts_of t → arguments_of t vs p at bound ≡ last_arguments (slice_get (with_meanings ts) (length ts - 1)) vs p at bound
+  call_is ts e h = at_head head.Call e ∙ in_last ts h
+
+  pub functor_call_is : (ts : List Node) → head_of t ≡ head.FunctorCall → ts ≡ parts_of t → arguments_of t vs p at bound ≡ last_arguments (slice_get (with_meanings ts) (length ts - 1)) vs p at bound
+  functor_call_is ts e h = at_head head.FunctorCall e ∙ in_last ts h
+
+module _ (ts : List Node) (vs : List TypedName) (p : Place) (at : Environment) (bound : List Binding) where
+  pub last_is : (x : Node) → slice_get ts (length ts - 1) ≡ Some x → last_arguments (slice_get (with_meanings ts) (length ts - 1)) vs p at bound ≡ arguments_of x vs p at bound
+  last_is x h = ap (λ o. last_arguments o vs p at bound) (meant_at ts (length ts - 1) x h)
+
+  pub no_last : slice_get ts (length ts - 1) ≡ None → last_arguments (slice_get (with_meanings ts) (length ts - 1)) vs p at bound ≡ refused Syntax p
+  no_last h = ap (λ o. last_arguments o vs p at bound) (none_at ts (length ts - 1) h)
 
 -- a node of another head is no call
 pub other_call : (k : Head) (ts : List Part) (vs : List TypedName) (p : Place) (at : Environment) (bound : List Binding)
-    → (k ≡ head.Call → ⊥) → (k ≡ head.List → ⊥) → arguing k ts vs p at bound ≡ refused Syntax p
-other_call head.Call ts vs p at bound a b = absurd (a refl)
-other_call head.List ts vs p at bound a b = absurd (b refl)
-other_call _ ts vs p at bound a b = refl
+    → (k ≡ head.Call → ⊥) → (k ≡ head.FunctorCall → ⊥) → (k ≡ head.List → ⊥) → arguing k ts vs p at bound ≡ refused Syntax p
+other_call head.Call ts vs p at bound a d b = absurd (a refl)
+other_call head.FunctorCall ts vs p at bound a d b = absurd (d refl)
+other_call head.List ts vs p at bound a d b = absurd (b refl)
+other_call _ ts vs p at bound a d b = refl
 
 -- a probability with its procedure and its arguments
 pub probability_is_by : (c m e : Node) (p : Place) (at : Environment) (bound : List Binding) (w : Option Ty) (x : Unit {0}) (f : Named) (ts : List Term)

@@ -1,5 +1,5 @@
 -- What is typed has the wanted type.
-use Rattle.std.proofs.Common.{◌≡◌, ℕ, ◌==◌, ◌^◌, nat_lt, pos, Bool, true, false, ◌&&◌, if◌then◌else◌, List, [], ◌∷◌, ◌++◌, reverse, length, Option, Some, None, is_none, bytes_eq, refl, ap, sym, subst, ◌∙◌}
+use Rattle.std.proofs.Common.{◌≡◌, ℕ, ◌==◌, ◌^◌, nat_lt, pos, Bool, true, false, ◌&&◌, if◌then◌else◌, List, [], ◌∷◌, ◌++◌, reverse, length, Option, Some, None, is_none, refl, ap, sym, subst, ◌∙◌}
 use Rattle.std.specs.Option.{option_map_or}
 use Rattle.gb_core.specs.declared.place.Place.{Place}
 use Rattle.gb_core.specs.declared.refusal.Why.{Why}
@@ -44,7 +44,10 @@ use Rattle.gb_names.specs.declared.names.Known.TheVariants as known
 use Rattle.gb_names.specs.Allowed.{coin, distribution_here, formula, has_judgments, is_program, judgment, may_have, stands}
 use Rattle.gb_names.specs.Binders.{bound_by, over, over_all, quantifier_of}
 use Rattle.gb_names.specs.Environment.{Environment, on_side}
-use Rattle.gb_names.specs.Judgments.{Named, both_procedures, one_procedure, before, after, equivalent}
+use Rattle.gb_names.specs.Judgments.{Named, both_procedures, called, one_procedure, before, after, equivalent}
+use Rattle.gb_names.specs.Modules.{whole_module}
+use Rattle.gb_terms.specs.declared.module.Mexp.{Mexp}
+use Rattle.gb_terms.specs.SameModules.{mexp_eq}
 use Rattle.gb_names.specs.Names.{ModuleVariable, constant_at, global_variable, known_at, memory_at, operator_at, named, path, sided, unit}
 use Rattle.gb_names.specs.Types.{type_of, type_or_number}
 use Rattle.gb_names.specs.Wanted.{HasType, fits, truth, type_of_term, wanted}
@@ -64,9 +67,9 @@ use Rattle.gb_operators.specs.Rules.{asked, made, rule_for, rule_of, user_made}
 use Rattle.gb_weights.specs.Weights.{outcomes, stated, weighed_all, weights}
 use Rattle.gb_elab.specs.declared.contract.Contract.{Contract}
 use Rattle.gb_elab.specs.OneProcedure.{after_one, always, around, ends, lossless, one, relation, with_chance}
-use Rattle.gb_elab.specs.Probability.{before_call, called, chance, chance_here}
+use Rattle.gb_elab.specs.Probability.{before_call, chance, chance_here}
 use Rattle.gb_elab.specs.Equalities.{equalities, equality, equation, equation_of, joined, with_equalities}
-use Rattle.gb_elab.specs.Globs.{Seen, agreement, agreement_on, agreements, agrees, bare_glob, behind_if, both_whole, same_globals, global_named, module_at, true_if_none, whole_alone, whole_equation, whole_read, with_agreement}
+use Rattle.gb_elab.specs.Globs.{Seen, agreement, agreement_on, agreements, agrees, bare_glob, behind_if, both_whole, same_globals, global_named, true_if_none, whole_alone, whole_equation, whole_read, with_agreement}
 use Rattle.gb_elab.specs.Forms.{Meaning, Part, Typing, annotated, applied as applied_name, applied_form, application, bare, bounded, bracketed, bracketed_function, by_rule, call, comparing, contract, declared, equivalence, function_typing, hoare, meaning, meant, only, operand, operands, operation, operator_alone, plain_function, probability, projection, quantified, read, simple, summed, typed_function, typing, under, user_call, value_of, with_side}
 
 refused_not : {A : Type 0} (w : Why) (p : Place) (y : A) → refused w p ≡ given y → (C : Type 0) → C
@@ -151,16 +154,16 @@ agreement_on_type ds s r p (Some xs) u h = ap type_of_term (sym (given_is _ u h)
 
 same_globals_type : (at : Environment) (bound : List Binding) (m : Node) (u : Term) → same_globals at bound m ≡ given u → type_of_term u ≡ bool_ty
 same_globals_type at bound m u h =
-    let n = given_bind (module_at at bound m) (λ n. agreement at.declared n side.Left side.Right (place_of m)) u h in
+    let n = given_bind (whole_module at bound m) (λ n. agreement at.declared n side.Left side.Right (place_of m)) u h in
     agreement_on_type at.declared side.Left side.Right (place_of m) (footprint at.declared n.0) u n.2
 
 whole_equation_has : (at : Environment) (bound : List Binding) (w : Option Ty) (p : Place) (a b : Seen) (u : Term) → whole_equation at bound w p a b ≡ given u → HasType w u
 whole_equation_has at bound w p a b u h =
-    let end = λ (l r : List ℕ × Side). if bytes_eq l.0 r.0 then agreement at.declared l.0 l.1 r.1 p else refused Argument a.2 in
+    let end = λ (l r : Mexp × Side). if mexp_eq l.0 r.0 then agreement at.declared l.0 l.1 r.1 p else refused Argument a.2 in
     let q = given_bind (truth w p) (λ _. whole_read at bound a >>= λ l. whole_read at bound b >>= λ r. end l r) u h in
     let l = given_bind (whole_read at bound a) (λ l. whole_read at bound b >>= λ r. end l r) u q.2 in
     let r = given_bind (whole_read at bound b) (λ r. end l.0 r) u l.2 in
-    let k = if_else_refused (bytes_eq l.0.0 r.0.0) Argument a.2 (agreement at.declared l.0.0 l.0.1 r.0.1 p) u r.2 in
+    let k = if_else_refused (mexp_eq l.0.0 r.0.0) Argument a.2 (agreement at.declared l.0.0 l.0.1 r.0.1 p) u r.2 in
     truth_has w p q.0 u q.1 (agreement_on_type at.declared l.0.1 r.0.1 p (footprint at.declared l.0.0) u k)
 
 alone_not : (at : Environment) (bound : List Binding) (o : Option Seen) (p : Place) (u : Term) → whole_alone at bound o p ≡ given u → (C : Type 0) → C

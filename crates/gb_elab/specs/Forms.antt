@@ -24,7 +24,7 @@ use Rattle.gb_names.specs.Allowed.{coin, formula, judgment, stands}
 use Rattle.gb_names.specs.Binders.{bound_by, over_all, quantifier_of}
 use Rattle.gb_names.specs.Bindings.{value}
 use Rattle.gb_names.specs.Environment.{Name, Environment, sampled, valued}
-use Rattle.gb_names.specs.Judgments.{both_procedures, one_procedure, before, after, equivalent}
+use Rattle.gb_names.specs.Judgments.{both_procedures, called, one_procedure, before, after, equivalent}
 use Rattle.gb_names.specs.Names.{beside, constant_at, known_at, memory_at, named, operator_at, path, unit}
 use Rattle.gb_names.specs.Types.{type_or_number}
 use Rattle.gb_operators.specs.declared.domain.Domain.{Domain}
@@ -44,7 +44,7 @@ use Rattle.gb_operators.specs.Rules.{asked, made, rule_for, rule_of, user_made}
 use Rattle.gb_weights.specs.Weights.{weights}
 use Rattle.gb_elab.specs.declared.contract.Contract.{Contract}
 use Rattle.gb_elab.specs.OneProcedure.{after_one, always, around, before_one, lossless, relation, with_chance}
-use Rattle.gb_elab.specs.Probability.{before_call, called, chance, chance_here}
+use Rattle.gb_elab.specs.Probability.{before_call, chance, chance_here}
 use Rattle.gb_elab.specs.Equalities.{equalities}
 use Rattle.gb_elab.specs.Globs.{Seen, bare_glob, both_whole, whole_alone, whole_equation}
 
@@ -270,6 +270,7 @@ last_arguments None vs p at bound = not_built p
 
 abbrev pub arguing : Head → List Part → Arguing
 arguing head.Call ps vs p at bound = last_arguments (slice_get ps (length ps - 1)) vs p at bound
+arguing head.FunctorCall ps vs p at bound = last_arguments (slice_get ps (length ps - 1)) vs p at bound
 arguing head.List ps vs p at bound = listed p at bound vs ps
 arguing _ ps vs p at bound = not_built p
 

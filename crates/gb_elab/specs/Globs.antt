@@ -7,11 +7,13 @@ use Rattle.gb_core.specs.declared.ty.Ty.{Ty}
 use Rattle.gb_core.specs.declared.ty.Ty.TheVariants.{Bool as bool_ty}
 use Rattle.gb_core.specs.declared.var.Var.{Var}
 use Rattle.gb_core.specs.declared.var.Var.TheVariants.{Global}
+use Rattle.gb_terms.specs.declared.module.Mexp.{Mexp}
 use Rattle.gb_terms.specs.declared.op.Op.TheVariants as op
 use Rattle.gb_terms.specs.declared.op.Side.{Side}
 use Rattle.gb_terms.specs.declared.op.Side.TheVariants as side
 use Rattle.gb_terms.specs.declared.term.Term.{Term}
 use Rattle.gb_terms.specs.Make.{applied, truth_literal}
+use Rattle.gb_terms.specs.SameModules.{mexp_eq}
 use Rattle.gb_script.specs.declared.head.Head.{Head}
 use Rattle.gb_script.specs.declared.head.Head.TheVariants as head
 use Rattle.gb_script.specs.declared.tree.Node.{Node, para-Node}
@@ -22,8 +24,8 @@ use Rattle.gb_goal.specs.Scope.{Declarations, module_of}
 use Rattle.gb_mods.specs.Footprint.{footprint}
 use Rattle.gb_names.specs.declared.bindings.Binding.{Binding}
 use Rattle.gb_names.specs.Environment.{Name, Environment, may_read, on_side}
-use Rattle.gb_names.specs.Judgments.{named_module}
-use Rattle.gb_names.specs.Names.{ModuleVariable, global_in, global_variable, has_memories, has_own, memory_at, path, side_of}
+use Rattle.gb_names.specs.Modules.{whole_module}
+use Rattle.gb_names.specs.Names.{ModuleVariable, global_in, global_variable, has_memories, has_own, memory_at, side_of}
 use Rattle.gb_names.specs.Wanted.{truth}
 use Rattle.gb_elab.specs.declared.globs.Whole.{Whole}
 
@@ -59,38 +61,14 @@ agreement_on ds s r p None = not_built p
 agreement_on ds s r p (Some xs) = given (true_if_none (agreements ds s r None xs))
 
 -- The globals of a module's footprint are the same in two memories: the conjunction of their equalities, in their order.
-abbrev pub agreement : Declarations → Name → Side → Side → Place → Answer Term
-agreement ds n s r p = agreement_on ds s r p (footprint ds n)
-
--- the name that a path or a word is
-abbrev pub name_in : Head → Name → List Node → Name
-name_in head.Path x ps = path ps
-name_in _ x ps = x
-
-abbrev pub name_of : Node → Name
-name_of t = name_in (head_of t) (text_of t) (parts_of t)
-
--- a module takes no more arguments than it has parameters
-abbrev pub without_arguments : List Node → Answer (Unit {0})
-without_arguments [] = given tt
-without_arguments (a ∷ bs) = refused Argument (place_of a)
-
--- the name of the module that a module expression is
-abbrev pub module_in : Environment → List Binding → List Node → Place → Answer Name
-module_in at bound (x ∷ bs) p = do
-  _ ← named_module at bound (name_of x) (place_of x)
-  _ ← without_arguments bs
-  given (name_of x)
-module_in at bound [] p = not_built p
-
-abbrev pub module_at : Environment → List Binding → Node → Answer Name
-module_at at bound m = module_in at bound (parts_of m) (place_of m)
+abbrev pub agreement : Declarations → Mexp → Side → Side → Place → Answer Term
+agreement ds m s r p = agreement_on ds s r p (footprint ds m)
 
 -- `={glob M}`
 abbrev pub same_globals : Environment → List Binding → Node → Answer Term
-same_globals at bound m = do
-  n ← module_at at bound m
-  agreement at.declared n side.Left side.Right (place_of m)
+same_globals at bound t = do
+  m ← whole_module at bound t
+  agreement at.declared m side.Left side.Right (place_of t)
 
 -- What is read as `(glob M)`, or with a memory behind it: the module expression, what stands in the braces, and its place.
 abbrev pub Seen : Type 0
@@ -157,14 +135,14 @@ abbrev pub memory_read : Environment → List Binding → Option Node → Place 
 memory_read at bound None p = if has_own at.variables then given side.Own else refused Argument p
 memory_read at bound (Some s) p = memory_behind (head_of s) s at bound p
 
-abbrev pub module_and_memory : Environment → List Binding → Seen → Answer (Name × Side)
+abbrev pub module_and_memory : Environment → List Binding → Seen → Answer (Mexp × Side)
 module_and_memory at bound w = do
   s ← memory_read at bound w.1 w.2
-  n ← module_at at bound w.0
-  given (n, s)
+  m ← whole_module at bound w.0
+  given (m, s)
 
 -- of which module all globals are read, and in which memory; programs and operators read none
-abbrev pub whole_read : Environment → List Binding → Seen → Answer (Name × Side)
+abbrev pub whole_read : Environment → List Binding → Seen → Answer (Mexp × Side)
 whole_read at bound w = if has_memories at.language then module_and_memory at bound w else refused Argument w.2
 
 -- All globals of a module stand in such equations alone.
@@ -180,4 +158,4 @@ whole_equation at bound w p a b = do
   _ ← truth w p
   l ← whole_read at bound a
   r ← whole_read at bound b
-  if bytes_eq l.0 r.0 then agreement at.declared l.0 l.1 r.1 p else refused Argument a.2
+  if mexp_eq l.0 r.0 then agreement at.declared l.0 l.1 r.1 p else refused Argument a.2

@@ -2,7 +2,6 @@
 use Rattle.std.specs.Prelude.{pos, true, if◌then◌else◌, List, [], ◌∷◌, bytes_eq, codes}
 use Rattle.gb_core.specs.declared.place.Place.{Place}
 use Rattle.gb_core.specs.declared.ty.Ty.TheVariants as ty
-use Rattle.gb_terms.specs.declared.decl.Proc.{Proc}
 use Rattle.gb_terms.specs.declared.module.ProcRef.{ProcRef}
 use Rattle.gb_terms.specs.declared.op.Op.TheVariants as op
 use Rattle.gb_terms.specs.declared.op.Rel.{Rel}
@@ -13,6 +12,7 @@ use Rattle.gb_terms.specs.Make.{applied, node, truth_literal}
 use Rattle.gb_script.specs.declared.tree.Node.{Node}
 use Rattle.gb_goal.specs.Answers.{Answer, ◌>>=◌, not_built}
 use Rattle.gb_goal.specs.Answers.Answer.{given}
+use Rattle.gb_goal.specs.Interfaces.{ProcedureType}
 use Rattle.gb_names.specs.declared.bindings.Binding.{Binding}
 use Rattle.gb_names.specs.Environment.{Name, Environment, ambient, in_judgments, reading, unary}
 use Rattle.gb_names.specs.Environment.Memories.{none}
@@ -20,11 +20,11 @@ use Rattle.gb_names.specs.Judgments.{one_procedure, result_of}
 use Rattle.gb_elab.specs.declared.contract.Contract.{Contract}
 
 -- what a precondition reads: the parameters of its procedure
-abbrev pub before_one : Environment → Proc → Environment
+abbrev pub before_one : Environment → ProcedureType → Environment
 before_one at f = reading (in_judgments at.memories) (unary at.declared at.sequent f.params)
 
 -- what a postcondition reads: the result of its procedure
-abbrev pub after_one : Environment → Proc → Environment
+abbrev pub after_one : Environment → ProcedureType → Environment
 after_one at f = reading (in_judgments at.memories) (unary at.declared at.sequent (result_of f))
 
 -- what a bound reads: logical variables alone

@@ -1,8 +1,9 @@
 // Typing of forms, from left to right.
 
-ghost use Rattle.std.specs.Prelude.{◌≡◌, ◌≤◌, [], ◌∷◌, drop, length, Some};
+ghost use Rattle.std.specs.Prelude.{◌≡◌, ◌≤◌, [], ◌∷◌, drop, length, Some, ◌-◌, slice_get};
 ghost use Rattle.std.specs.Option.{option_copied};
 ghost use Rattle.gb_script.specs.Tree.{head_of, text_of, parts_of, place_of};
+ghost use Rattle.gb_goal.specs.Seen.{typed as seen_type};
 ghost use Rattle.gb_goal.specs.Answers.{Answers, Gives, ◌>>=◌ as ◌and_then◌};
 ghost use Rattle.gb_core.specs.declared.refusal.Why.TheVariants.{TypeMismatch};
 ghost use Rattle.gb_goal.specs.Answers.Answer.{given, refused};
@@ -14,12 +15,12 @@ ghost use Rattle.gb_names.specs.Environment.{ambient, environment};
 ghost use Rattle.gb_names.specs.Names.{constant_at, memory_at, operator_at, path};
 ghost use Rattle.gb_operators.specs.Rules.{asked};
 ghost use Rattle.gb_names.specs.Judgments.{after, before, equivalent};
-ghost use Rattle.gb_elab.specs.Forms.{annotated, applied, applied_form, application, arguments, arguments_of, bounded, bracketed, bracketed_function, by_rule, call, comparing, contract, contract_of, declared, elaborated, equivalence, hoare, from_right, function, function_of, function_typing, listed, meant, only, operand, operands, operation, operator_alone, plain_function, probability, projection, quantified, read, simple, summed, typed_function, typing, under, user_call, value_of, with_meanings, with_side};
+ghost use Rattle.gb_elab.specs.Forms.{annotated, applied, applied_form, application, arguments, arguments_of, bounded, bracketed, bracketed_function, by_rule, call, comparing, contract, contract_of, declared, elaborated, equivalence, hoare, from_right, function, function_of, function_typing, last_arguments, listed, meant, only, operand, operands, operation, operator_alone, plain_function, probability, projection, quantified, read, simple, summed, typed_function, typing, under, user_call, value_of, with_meanings, with_side};
 
 use crate::contract::{Contract, always, lossless, relation, with_chance};
 use crate::equalities::equalities;
 use crate::globs::{bare_glob, both_whole, whole_alone, whole_equation};
-use crate::probability::{called, chance, chance_here};
+use crate::probability::{chance, chance_here};
 use gb_core::Shared;
 use gb_core::name::Name;
 use gb_core::place::Place;
@@ -30,7 +31,7 @@ use gb_goal::sequent::Sequent;
 use gb_names::allowed::{coin, formula, judgment, stands};
 use gb_names::binders::{Quantifier, bound_by, over_all, quantifier_of};
 use gb_names::bindings::{Binding, Bindings, within};
-use gb_names::judgment::{Both, Named, both_procedures, equiv, one_procedure, result_of};
+use gb_names::judgment::{Both, Named, both_procedures, called, equiv, one_procedure, result_of};
 use gb_names::memories::memory_at;
 use gb_names::names::{Known, beside, constant_at, known_at, named, operator_at, path, unit};
 use gb_names::refusals::{argument, mismatch, not_built};
@@ -725,10 +726,10 @@ fn precondition(
     pre: &Node,
     both: &Both<'_>,
 ) -> Result<Form, Refused>
-    ensures { Answers (elaborated pre.now (before (environment at.now) both.now.left.procedure.now both.now.right.procedure.now) bound.now (Some Ty.Bool)) result }
+    ensures { Answers (elaborated pre.now (before (environment at.now) (seen_type both.now.left.ty) (seen_type both.now.right.ty)) bound.now (Some Ty.Bool)) result }
 {
-    let left = both.left.procedure.params.as_slice();
-    let right = both.right.procedure.params.as_slice();
+    let left = both.left.ty.params;
+    let right = both.right.ty.params;
     let before = Setting::relational(at.scope, at.sequent, left, right).reading(
         at.memories.in_judgments(),
     );
@@ -744,10 +745,10 @@ fn postcondition(
     post: &Node,
     both: &Both<'_>,
 ) -> Result<Form, Refused>
-    ensures { Answers (elaborated post.now (after (environment at.now) both.now.left.procedure.now both.now.right.procedure.now) bound.now (Some Ty.Bool)) result }
+    ensures { Answers (elaborated post.now (after (environment at.now) (seen_type both.now.left.ty) (seen_type both.now.right.ty)) bound.now (Some Ty.Bool)) result }
 {
-    let left = result_of(alloc, both.left.procedure)?;
-    let right = result_of(alloc, both.right.procedure)?;
+    let left = result_of(alloc, both.left.ty)?;
+    let right = result_of(alloc, both.right.ty)?;
     let after = Setting::relational(
         at.scope,
         at.sequent,
@@ -767,7 +768,7 @@ fn with_postcondition(
     both: &Both<'_>,
     pre: Form,
 ) -> Result<Form, Refused>
-    ensures { Answers (elaborated post.now (after (environment at.now) both.now.left.procedure.now both.now.right.procedure.now) bound.now (Some Ty.Bool) and_then λ post. given (equivalent both.now.left.reference both.now.right.reference pre post)) result }
+    ensures { Answers (elaborated post.now (after (environment at.now) (seen_type both.now.left.ty) (seen_type both.now.right.ty)) bound.now (Some Ty.Bool) and_then λ post. given (equivalent both.now.left.reference both.now.right.reference pre post)) result }
 {
     let post = postcondition(alloc, at, bound, post, both)?;
     equiv(alloc, both, pre, post).map_err(Refused::from)
@@ -885,9 +886,9 @@ fn before_one(
     pre: &Node,
     named: &Named<'_>,
 ) -> Result<Form, Refused>
-    ensures { Answers (elaborated pre.now (before_one (environment at.now) named.now.procedure.now) bound.now (Some Ty.Bool)) result }
+    ensures { Answers (elaborated pre.now (before_one (environment at.now) (seen_type named.now.ty)) bound.now (Some Ty.Bool)) result }
 {
-    let before = Setting::unary(at.scope, at.sequent, named.procedure.params.as_slice()).reading(
+    let before = Setting::unary(at.scope, at.sequent, named.ty.params).reading(
         at.memories.in_judgments(),
     );
     typed(alloc, &before, bound, pre, Some(&Ty::Bool))
@@ -902,9 +903,9 @@ fn after_one(
     post: &Node,
     named: &Named<'_>,
 ) -> Result<Form, Refused>
-    ensures { Answers (elaborated post.now (after_one (environment at.now) named.now.procedure.now) bound.now (Some Ty.Bool)) result }
+    ensures { Answers (elaborated post.now (after_one (environment at.now) (seen_type named.now.ty)) bound.now (Some Ty.Bool)) result }
 {
-    let result = result_of(alloc, named.procedure)?;
+    let result = result_of(alloc, named.ty)?;
     let after = Setting::unary(at.scope, at.sequent, result.as_slice()).reading(
         at.memories.in_judgments(),
     );
@@ -921,7 +922,7 @@ fn with_result(
     named: &Named<'_>,
     pre: Form,
 ) -> Result<Contract, Refused>
-    ensures { Answers (elaborated post.now (after_one (environment at.now) named.now.procedure.now) bound.now (Some Ty.Bool) and_then λ post. given (record { procedure = named.now.reference; pre = pre; post = post })) result }
+    ensures { Answers (elaborated post.now (after_one (environment at.now) (seen_type named.now.ty)) bound.now (Some Ty.Bool) and_then λ post. given (record { procedure = named.now.reference; pre = pre; post = post })) result }
 {
     let post = after_one(alloc, at, bound, post, named)?;
     let procedure = named.reference.share()?;
@@ -965,11 +966,10 @@ fn before_call(
     named: &Named<'_>,
     memory: &Name,
 ) -> Result<Terms, Refused>
-    ensures { Answers (arguments_of call.now named.now.procedure.now.params (place_of call.now) (before_call (environment at.now) memory.now) bound.now) result }
+    ensures { Answers (arguments_of call.now named.now.ty.params.now (place_of call.now) (before_call (environment at.now) memory.now) bound.now) result }
 {
     let before = Setting::ambient(at.scope, at.sequent).reading(at.memories.in_arguments(memory));
-    let params = named.procedure.params.as_slice();
-    arguments_of(alloc, &before, bound, params, call, call.place)
+    arguments_of(alloc, &before, bound, named.ty.params, call, call.place)
 }
 
 /// The probability of an event after a procedure with these arguments.
@@ -983,7 +983,7 @@ fn from_memory(
     event: &Node,
     memory: &Node,
 ) -> Result<RealTerm, Refused>
-    ensures { Answers (memory_at (environment at.now) bound.now (text_of memory.now) (place_of memory.now) and_then λ i. elaborated event.now (after_one (environment at.now) named.now.procedure.now) bound.now (Some Ty.Bool) and_then λ b. given (chance named.now.reference i arguments b)) result }
+    ensures { Answers (memory_at (environment at.now) bound.now (text_of memory.now) (place_of memory.now) and_then λ i. elaborated event.now (after_one (environment at.now) (seen_type named.now.ty)) bound.now (Some Ty.Bool) and_then λ b. given (chance named.now.reference i arguments b)) result }
 {
     let memory = memory_at(alloc, at, bound, &memory.text, memory.place)?;
     let event = after_one(alloc, at, bound, event, named)?;
@@ -1004,12 +1004,28 @@ fn arguments_of(
     ensures { Answers (arguments_of t.now params.now place (environment at.now) bound.now) result }
 {
     match t.head {
-        Head::Call => match t.parts.as_slice().last() {
-            Some(list) => arguments_of(alloc, at, bound, params, list, place),
-            None => Err(not_built(place)),
-        },
+        Head::Call => in_last(alloc, at, bound, params, t.parts.as_slice(), place),
+        Head::FunctorCall => in_last(alloc, at, bound, params, t.parts.as_slice(), place),
         Head::List => listed(alloc, at, bound, params, t.parts.as_slice(), place),
         _ => Err(not_built(place)),
+    }
+}
+
+/// The arguments of a call, which stand in the last of these parts.
+#[cycle(form)]
+fn in_last(
+    alloc: Global,
+    at: &Setting<'_>,
+    bound: &[Binding],
+    params: &[TypedName],
+    parts: &[Node],
+    place: Place,
+) -> Result<Terms, Refused>
+    ensures { Answers (last_arguments (slice_get (with_meanings parts.now) (length parts.now - 1)) params.now place (environment at.now) bound.now) result }
+{
+    match parts.last() {
+        Some(list) => arguments_of(alloc, at, bound, params, list, place),
+        None => Err(not_built(place)),
     }
 }
 

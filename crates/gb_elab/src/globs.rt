@@ -8,7 +8,7 @@ ghost use Rattle.gb_goal.specs.Answers.Answer.{given};
 ghost use Rattle.gb_goal.specs.Scope.{module_of};
 ghost use Rattle.gb_names.specs.Environment.{environment};
 ghost use Rattle.gb_names.specs.Names.{global_in};
-ghost use Rattle.gb_elab.specs.Globs.{agreement, agreements, agrees, bare_glob, behind_if, both_whole, same_globals, global_named, memory_behind, memory_read, module_at, name_of, seeing, seen, side_read, true_if_none, whole_alone, whole_equation, whole_in, whole_read, with_braces, with_seen, without_arguments};
+ghost use Rattle.gb_elab.specs.Globs.{agreement, agreements, agrees, bare_glob, behind_if, both_whole, same_globals, global_named, memory_behind, memory_read, seeing, seen, side_read, true_if_none, whole_alone, whole_equation, whole_in, whole_read, with_braces, with_seen};
 
 use gb_core::name::Name;
 use gb_core::place::Place;
@@ -20,15 +20,17 @@ use gb_mods::footprint::footprint;
 use gb_names::allowed::truth;
 use gb_names::bindings::Binding;
 use gb_names::globals::{ModuleVariable, global_variable};
-use gb_names::judgment::named_module;
 use gb_names::memories::memory_at;
-use gb_names::names::{first_named, path, side_of};
+use gb_names::modules::whole_module;
+use gb_names::names::{first_named, side_of};
 use gb_names::refusals::{argument, not_built};
 use gb_names::setting::{Language, Setting, Variables};
 use gb_script::head::Head;
 use gb_script::tree::Node;
 use gb_terms::make;
+use gb_terms::module::Mexp;
 use gb_terms::op::Side;
+use gb_terms::same::same_module;
 use gb_terms::term::{Form, Term};
 use std::alloc::{AllocError, Global};
 
@@ -133,55 +135,16 @@ fn agreement_on(
 fn agreement(
     alloc: Global,
     scope: &Scope,
-    name: &Name,
+    module: &Mexp,
     left: Side,
     right: Side,
     place: Place,
 ) -> Result<Form, Refused>
-    ensures { Answers (agreement scope.now name.now left right place) result }
+    ensures { Answers (agreement scope.now «module».now left right place) result }
 {
-    match footprint(alloc, scope, name)? {
+    match footprint(alloc, scope, module)? {
         Some(list) => agreement_on(alloc, scope, left, right, list.as_slice()),
         None => Err(not_built(place)),
-    }
-}
-
-/// The name that a path or a word is.
-fn name_of(alloc: Global, t: &Node) -> Result<Name, AllocError>
-    ensures { IfOk result (λ made. made ≡ name_of t.now) }
-{
-    match t.head {
-        Head::Path => path(alloc, t.parts.as_slice()),
-        _ => t.text.copy(alloc),
-    }
-}
-
-/// Refuses the first argument of a module that has no parameters.
-fn without_arguments(list: &[Node]) -> Result<(), Refused>
-    ensures { Answers (without_arguments list.now) result }
-{
-    match list {
-        [] => Ok(()),
-        [first, ..] => Err(argument(first.place)),
-    }
-}
-
-/// The name of the module that a module expression is.
-///
-/// # Errors
-///
-/// `UnknownName` of its name, `Argument` of one that another thing has, and of an argument, since no module has parameters.
-fn module_at(alloc: Global, at: &Setting<'_>, bound: &[Binding], t: &Node) -> Result<Name, Refused>
-    ensures { Answers (module_at (environment at.now) bound.now t.now) result }
-{
-    match t.parts.as_slice() {
-        [first, arguments @ ..] => {
-            let name = name_of(alloc, first)?;
-            named_module(alloc, at, bound, &name, first.place)?;
-            without_arguments(arguments)?;
-            Ok(name)
-        }
-        [] => Err(not_built(t.place)),
     }
 }
 
@@ -189,7 +152,7 @@ fn module_at(alloc: Global, at: &Setting<'_>, bound: &[Binding], t: &Node) -> Re
 ///
 /// # Errors
 ///
-/// Those of `module_at`.
+/// Those of `whole_module`.
 pub fn same_globals(
     alloc: Global,
     at: &Setting<'_>,
@@ -198,8 +161,8 @@ pub fn same_globals(
 ) -> Result<Form, Refused>
     ensures { Answers (same_globals (environment at.now) bound.now t.now) result }
 {
-    let name = module_at(alloc, at, bound, t)?;
-    agreement(alloc, at.scope, &name, Side::Left, Side::Right, t.place)
+    let module = whole_module(alloc, at, bound, t)?;
+    agreement(alloc, at.scope, &module, Side::Left, Side::Right, t.place)
 }
 
 /// What is read as `(glob M)`, or with a memory behind it: the module expression, what stands in the braces, and its place.
@@ -336,14 +299,14 @@ fn whole_read(
     at: &Setting<'_>,
     bound: &[Binding],
     read: &Whole<'_>,
-) -> Result<(Name, Side), Refused>
+) -> Result<(Mexp, Side), Refused>
     ensures { Answers (whole_read (environment at.now) bound.now (seen read.now)) result }
 {
     match at.language {
         Language::Formula | Language::Function => {
             let side = memory_read(alloc, at, bound, read.behind, read.place)?;
-            let name = module_at(alloc, at, bound, read.owner)?;
-            Ok((name, side))
+            let module = whole_module(alloc, at, bound, read.owner)?;
+            Ok((module, side))
         }
         Language::Program | Language::Sampled | Language::Operator => Err(argument(read.place)),
     }
@@ -390,7 +353,7 @@ pub fn whole_equation(
     truth(want, place)?;
     let (first, from) = whole_read(alloc, at, bound, left)?;
     let (second, to) = whole_read(alloc, at, bound, right)?;
-    if first == second {
+    if same_module(&first, &second) {
         agreement(alloc, at.scope, &first, from, to, place)
     } else {
         Err(argument(left.place))

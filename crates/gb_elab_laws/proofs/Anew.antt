@@ -2,15 +2,13 @@
 use Rattle.std.proofs.Common.{◌≡◌, List, [], ◌∷◌, Option, Some, None, refl, ap, sym, ◌∙◌, subst, true}
 use Rattle.std.proofs.lemmas.Option.{none-some}
 use Rattle.gb_core.specs.declared.ty.Ty.TheVariants as ty
-use Rattle.gb_terms.specs.declared.decl.Proc.{Proc}
 use Rattle.gb_terms.specs.declared.decl.TypedName.{TypedName}
 use Rattle.gb_terms.specs.declared.module.ProcRef.{ProcRef}
 use Rattle.gb_terms.specs.declared.op.Side.{Side}
 use Rattle.gb_terms.specs.declared.op.Side.TheVariants as side
 use Rattle.gb_terms.specs.declared.term.Term.{Term}
-use Rattle.gb_meaning.specs.Written.{type_of}
 use Rattle.gb_goal.specs.Scope as scope
-use Rattle.gb_goal.specs.Scope.{procedure_of}
+use Rattle.gb_goal.specs.Interfaces.{procedure_type}
 use Rattle.gb_goal.specs.Goal.{Code, Goal, goal_of}
 use Rattle.gb_goal.specs.Goal.Code.{body, procedure as of_procedure}
 use Rattle.gb_goal.specs.Goal.Goal.{hoare, phoare, equiv, ambient}
@@ -34,7 +32,7 @@ use Rattle.gb_typing.proofs.Lifted.{sequent_outermost}
 use Rattle.gb_names.specs.Environment.{Environment, ambient as outside, relational, unary}
 use Rattle.gb_elab.specs.Forms.{elaborated}
 use Rattle.gb_elab_mod.specs.Occurring.{occurring, read_locals}
-use Rattle.gb_elab_mod.specs.Steps.{params_if, result_if, locals_before, locals_after, term_if, said_anew, conseq_of, conseq_rule}
+use Rattle.gb_elab_mod.specs.OnPrograms.{params_if, result_if, locals_before, locals_after, term_if, said_anew, conseq_of, conseq_rule}
 use Rattle.gb_bodies.specs.Conseq.{IsCondition, IsBound, IsTypedWeakened}
 use Rattle.gb_bodies.specs.Rows.{IsTypedRule}
 use Rattle.gb_elab_laws.specs.Fitting.{AreIn, IsFitting}
@@ -83,23 +81,23 @@ module _ (ds : scope.Declarations) (scoped : IsTypedScope (declared ds)) (q : Se
       subst (IsBound here) {x = Some f.0} (given_is (Some f.0) o f.2) (subst (λ d. IsTyped d f.0) (outer ∙ sym (ap (λ d. with_own d None) outer)) e.typed, e.wanted)
 
   -- the locals of a memory
-  pub params_stand : (f : ProcRef) → IsThere (procedure here f) → (o : Option Proc) → procedure_of ds f ≡ o → AreIn true (before (procedure here f)) (params_if o)
+  pub params_stand : (f : ProcRef) → IsThere (procedure here f) → (o : Option ProcedureType) → procedure_type ds None f ≡ o → AreIn true (before (procedure here f)) (params_if o)
   params_stand f h None e = no_locals (before (procedure here f)) (memory_before (procedure here f) h)
   params_stand f h (Some a) e = params_in (procedure here f) a (fits.procedures refl f a e)
 
-  pub result_stands : (f : ProcRef) → IsThere (procedure here f) → (o : Option Proc) → procedure_of ds f ≡ o → AreIn true (after (procedure here f)) (result_if o)
+  pub result_stands : (f : ProcRef) → IsThere (procedure here f) → (o : Option ProcedureType) → procedure_type ds None f ≡ o → AreIn true (after (procedure here f)) (result_if o)
   result_stands f h None e = no_locals (after (procedure here f)) (memory_after (procedure here f) h)
   result_stands f h (Some a) e = result_in (procedure here f) a (fits.procedures refl f a e)
 
   stand_before : (ms : List TypedName) (a : Code) → IsCode here ms a → (p g : Term) (r : Side) → StandIn (frame_before here ms a) (read_locals p r) → StandIn (frame_after here ms a) (read_locals g r) →
       AreIn true (frame_before here ms a) (locals_before ds p g r a)
   stand_before ms (body is) w p g r k l = occurring_in ms here ds (fits.procedures refl) r p g is k l w
-  stand_before ms (of_procedure f) w p g r k l = params_stand f w (procedure_of ds f) refl
+  stand_before ms (of_procedure f) w p g r k l = params_stand f w (procedure_type ds None f) refl
 
   stand_after : (ms : List TypedName) (a : Code) → IsCode here ms a → (p g : Term) (r : Side) → StandIn (frame_before here ms a) (read_locals p r) → StandIn (frame_after here ms a) (read_locals g r) →
       AreIn true (frame_after here ms a) (locals_after ds p g r a)
   stand_after ms (body is) w p g r k l = occurring_in ms here ds (fits.procedures refl) r p g is k l w
-  stand_after ms (of_procedure f) w p g r k l = result_stands f w (procedure_of ds f) refl
+  stand_after ms (of_procedure f) w p g r k l = result_stands f w (procedure_type ds None f) refl
 
   abbrev Typed : Goal → BodyRule → Type 0
   Typed G r = IsTypedRule here (rule.OnBodies r) ls rs G

@@ -6,14 +6,13 @@ use Rattle.gb_core.specs.declared.ty.Ty.{Ty}
 use Rattle.gb_core.specs.declared.ty.Ty.TheVariants as ty
 use Rattle.gb_core.specs.declared.var.Var.TheVariants.{Local, Global}
 use Rattle.gb_terms.specs.declared.decl.Module.{Module}
-use Rattle.gb_terms.specs.declared.decl.Proc.{Proc}
 use Rattle.gb_terms.specs.declared.decl.TypedName.{TypedName}
-use Rattle.gb_terms.specs.declared.module.Mexp.TheVariants.{Name as named}
 use Rattle.gb_terms.specs.declared.module.ProcRef.{ProcRef}
 use Rattle.gb_terms.specs.declared.term.Term.{Term}
 use Rattle.gb_terms.specs.declared.term.Instr.{Instr}
 use Rattle.gb_goal.specs.Answers.Answer.{given, refused}
-use Rattle.gb_goal.specs.Scope.{Declarations, module_of, proc_of, procedure_of}
+use Rattle.gb_goal.specs.Interfaces.{ProcedureType, procedure_type}
+use Rattle.gb_goal.specs.Scope.{Declarations, module_of}
 use Rattle.gb_script.specs.declared.tree.Node.{Node}
 use Rattle.gb_script.specs.Tree.{place_of}
 use Rattle.gb_meaning.specs.Names.{Name}
@@ -40,13 +39,13 @@ use Rattle.gb_elab_laws.proofs.Fits.{program_fits}
 use Rattle.gb_elab_laws.proofs.Leaves.{global_stands}
 use Rattle.gb_elab_laws.proofs.Shapes.{EachFiniteWith, parts_are, row_finite}
 
--- A module is typed so far among declarations, whose globals and procedures stand in a context, and so do its own.
+-- A module is typed so far among declarations, whose globals stand in a context, and so do its own, and the procedures that are known
+-- inside of it: those of declared modules, its own ones, and those of its parameters.
 pub record IsAround (ds : Declarations) (c : Context) (m : Module) : Type 0 where
   pub names : AreDeclared c.operator ds
   pub others : (n : Name) (k : Module) → module_of ds n ≡ Some k → HasGlobals c.global n k
   pub own : HasGlobals c.global m.name m
-  pub procedures : (f : ProcRef) (a : Proc) → procedure_of ds f ≡ Some a → IsTypeOf (procedure c f) a
-  pub own_procedures : (n : Name) (a : Proc) → proc_of m.procs n ≡ Some a → IsTypeOf (procedure c (record { «module» = named m.name; name = n })) a
+  pub procedures : (f : ProcRef) (a : ProcedureType) → procedure_type ds (Some m) f ≡ Some a → IsTypeOf (procedure c f) a
 
 module _ (ds : Declarations) (c : Context) (m : Module) (around : IsAround ds c m) (vs : List TypedName) (typed : HaveVariableTypes vs) where
   abbrev pub here : Environment

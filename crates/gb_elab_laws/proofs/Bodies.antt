@@ -93,6 +93,7 @@ body_fits ds c vs names h = record {
   declared = names;
   around = tt;
   globals = λ e. absurd (false≢true e);
+  outside = λ e. absurd (false≢true e);
   procedures = λ e p f k. absurd (false≢true e);
   memories = λ e i k. absurd (false≢true e);
   locals = λ e i x t k. absurd (false≢true e);

@@ -52,7 +52,8 @@ use Rattle.gb_amb.specs.Witness.{at_memory}
 use Rattle.gb_typing.specs.Scopes.{context_of, IsTypedScope}
 use Rattle.gb_names.specs.Environment.{ambient}
 use Rattle.gb_elab.specs.Forms.{elaborated}
-use Rattle.gb_elab_mod.specs.Steps.{asked_of, acts, coupling_rule, couplings, drawing_rule, cut_of, functions_of, conclusion_rule, conseq_rule, formed, case_of_bodies, case_of_conclusion, of_bodies_rule, on_all, plain_rule, seq_rule, sided_case_rule, typed_rule, step_given, both_rule, chance_rule, judges_chance, asks_for_locals, memory_witness, value_witness, witness_rule}
+use Rattle.gb_elab_mod.specs.OnPrograms.{acts, coupling_rule, couplings, drawing_rule, cut_of, functions_of, conseq_rule, case_of_bodies, of_bodies_rule, on_all, plain_rule, seq_rule, both_rule, chance_rule, judges_chance}
+use Rattle.gb_elab_mod.specs.Steps.{asked_of, conclusion_rule, formed, case_of_conclusion, sided_case_rule, typed_rule, step_given, asks_for_locals, memory_witness, value_witness, witness_rule}
 use Rattle.gb_elab_mod.specs.Multiples.{hypothesis_at, multiples, position}
 use Rattle.gb_elab_mod.specs.Uses.{all_hinted, defined_operator, hypothesis, used, is_memory, memory_of}
 use Rattle.gb_elab_mod.specs.Taken.{new_name}

@@ -1,5 +1,5 @@
 -- What the typing of calls gives is typed.
-use Rattle.std.proofs.Common.{◌≡◌, ◌≤◌, false, nat_lt, List, [], ◌∷◌, length, Some, refl, ap, sym, ◌∙◌, subst, arith}
+use Rattle.std.proofs.Common.{◌≡◌, ◌≤◌, ◌-◌, false, nat_lt, List, [], ◌∷◌, drop, length, Some, refl, ap, sym, ◌∙◌, subst, arith}
 use Rattle.std.proofs.lemmas.Bool.{ltb-false}
 use Rattle.gb_core.specs.declared.place.Place.{Place}
 use Rattle.gb_core.specs.declared.refusal.Why.TheVariants.{TypeMismatch}
@@ -14,15 +14,15 @@ use Rattle.gb_terms.specs.declared.term.Head.TheBlock as B
 use Rattle.gb_terms.specs.declared.term.Instr.{Instr}
 use Rattle.gb_goal.specs.Answers.Answer.{given}
 use Rattle.gb_goal.specs.Scope.{Declarations}
+use Rattle.gb_script.specs.declared.head.Head.{Head}
 use Rattle.gb_script.specs.declared.tree.Node.{Node}
-use Rattle.gb_script.specs.Tree.{text_of, parts_of}
 use Rattle.gb_meaning.specs.Commands.{terms_in}
 use Rattle.gb_names.specs.Environment.{Environment, program}
-use Rattle.gb_names.specs.Judgments.{Named, Path, procedure_path}
+use Rattle.gb_names.specs.Judgments.{Named, procedure_called}
 use Rattle.gb_names.specs.Names.{Target}
 use Rattle.gb_elab.specs.Forms.{elaborated}
 use Rattle.gb_elab_prog.specs.Contexts.{nothing_around}
-use Rattle.gb_elab_stmt.specs.Calls.{arguments, call, call_of, called, enough, takes}
+use Rattle.gb_elab_stmt.specs.Calls.{arguments, call, call_of, enough, in_last, takes}
 use Rattle.gb_elab_stmt.specs.Targets.{type_of_all, variables_of}
 use Rattle.gb_meaning.specs.Written.{type_of}
 use Rattle.gb_laws.specs.Finite.{IsFinite}
@@ -35,9 +35,9 @@ use Rattle.gb_typing.specs.Programs.{AreArguments, IsCall, HaveVariableTypes}
 use Rattle.gb_elab_laws.specs.Fitting.{IsTypeOf}
 use Rattle.gb_elab_laws.proofs.Around.{IsAround}
 use Rattle.gb_elab_laws.proofs.Around as program_around
-use Rattle.gb_elab_laws.proofs.Callees.{callee}
 use Rattle.gb_elab_laws.proofs.Forms.{elaborated_typed}
 use Rattle.gb_elab_laws.proofs.Given.{given_bind, given_is, if_given, if_refused}
+use Rattle.gb_elab_laws.proofs.Judged.{callee_is}
 use Rattle.gb_elab_laws.proofs.Shapes.{finite_form}
 use Rattle.gb_elab_laws.proofs.Spoken.{hidden_named}
 use mathlib.Core.Former.{Count}
@@ -49,9 +49,6 @@ module _ (ds : Declarations) (c : Context) (m : Module) (around : IsAround ds c 
   -- a procedure that is there, of which the parameters are values
   abbrev IsThere : Named → Type 0
   IsThere n = IsTypeOf (procedure c n.0) n.1
-
-  called_there : (f : Path) (p : Place) (n : Named) → called here f p ≡ given n → IsThere n
-  called_there = callee ds m vs IsThere around.procedures around.own_procedures
 
   abbrev IsMade : Instr → Type 0
   IsMade = program_around.IsMade ds c m around vs typed
@@ -94,18 +91,18 @@ module _ (ds : Declarations) (c : Context) (m : Module) (around : IsAround ds c 
     hidden_named NoName us k.1,
   )
 
-  of_path : (ws : List Target) → program_around.AreTargets ds c m around vs typed ws → (f : Path) (es : List Node) (p : Place) (i : Instr) → call_of here ws f es p ≡ given i → IsMade i
+  of_procedure : (ws : List Target) → program_around.AreTargets ds c m around vs typed ws → (n : Named) → IsThere n → (es : List Node) (p : Place) (i : Instr) → call_of here ws n es p ≡ given i → IsMade i
   unfolding call_of
-  of_path ws w f es p i h =
-      let n = given_bind (called here f p) _ i h in
-      let o = given_bind (enough n.0.1.params es p) _ i n.2 in
-      let t = given_bind (takes ws n.0.1.result p) _ i o.2 in
-      let us = given_bind (arguments here n.0.1.params es) (λ (us : List Term). given (Call (variables_of ws) n.0.0 us)) i t.2 in
-      let there = called_there f p n.0 n.1 in
-      let many = if_refused (nat_lt (length es) (length n.0.1.params)) TypeMismatch p (given tt) o.0 o.1 in
-      subst (IsMade) (given_is (Call (variables_of ws) n.0.0 us.0) i us.2)
-      (statement_is ws n.0 us.0 there (arguments_typed n.0.1.params es us.0 there.params (ltb-false (length es) (length n.0.1.params) many.0) us.1) (results_taken ws w n.0.1.result p t.0 t.1))
+  of_procedure ws w n there es p i h =
+      let o = given_bind (enough n.1.params es p) _ i h in
+      let t = given_bind (takes ws n.1.result p) _ i o.2 in
+      let us = given_bind (arguments here n.1.params es) (λ (us : List Term). given (Call (variables_of ws) n.0 us)) i t.2 in
+      let many = if_refused (nat_lt (length es) (length n.1.params)) TypeMismatch p (given tt) o.0 o.1 in
+      subst (IsMade) (given_is (Call (variables_of ws) n.0 us.0) i us.2)
+      (statement_is ws n us.0 there (arguments_typed n.1.params es us.0 there.params (ltb-false (length es) (length n.1.params) many.0) us.1) (results_taken ws w n.1.result p t.0 t.1))
 
-  pub call_typed : (ws : List Target) → program_around.AreTargets ds c m around vs typed ws → (x : Node) (ys es : List Node) (p : Place) (i : Instr) → call here ws x ys es p ≡ given i → IsMade i
-  call_typed ws w x (y ∷ ys) (es ∷ []) p i h = of_path ws w (procedure_path (text_of x) y ys) (parts_of es) p i h
-  call_typed ws w x _ _ p i h = cc
+  pub call_typed : (ws : List Target) → program_around.AreTargets ds c m around vs typed ws → (k : Head) (x : Node) (xs : List Node) (p : Place) (i : Instr) → call here ws k x xs p ≡ given i → IsMade i
+  call_typed ws w k x xs p i h =
+      let es = in_last (drop (length xs - 1) xs) in
+      let n = given_bind (procedure_called here [] k x xs p) (λ (n : Named). call_of here ws n es p) i h in
+      of_procedure ws w n.0 (around.procedures n.0.0 n.0.1 (callee_is here [] k x xs p n.0 n.1)) es p i n.2

@@ -1,5 +1,5 @@
 -- What is said before and after procedures whose probabilities a goal compares is typed over their parameters and results.
-use Rattle.std.proofs.Common.{◌≡◌, ℕ, List, [], ◌∷◌, Some, refl, sym, subst}
+use Rattle.std.proofs.Common.{◌≡◌, ℕ, List, [], ◌∷◌, Some, None, refl, sym, subst}
 use Rattle.gb_core.specs.declared.place.Place.{Place}
 use Rattle.gb_core.specs.declared.ty.Ty.TheVariants as ty
 use Rattle.gb_terms.specs.declared.decl.TypedName.{TypedName}
@@ -8,7 +8,7 @@ use Rattle.gb_terms.specs.declared.term.Head.{Head}
 use Rattle.gb_terms.specs.declared.term.Head.TheVariants as head
 use Rattle.gb_terms.specs.declared.term.Term.{Term, out-Term}
 use Rattle.gb_goal.specs.Scope as scope
-use Rattle.gb_goal.specs.Scope.{procedure_of}
+use Rattle.gb_goal.specs.Interfaces.{procedure_type}
 use Rattle.gb_goal.specs.Goal.{Goal, IsJudgment, code_of, goal_at, goal_of}
 use Rattle.gb_goal.specs.Goal.Goal.{hoare, phoare, equiv, ambient as other_form}
 use Rattle.gb_goal.specs.declared.sequent.Sequent.{Sequent}
@@ -26,7 +26,8 @@ use Rattle.gb_typing.specs.Sequents.{of_sequent, IsTypedSequent}
 use Rattle.gb_typing.specs.Typing.{IsForm, IsThere, before, after}
 use Rattle.gb_names.specs.Environment.{ambient, unary}
 use Rattle.gb_elab.specs.Forms.{elaborated}
-use Rattle.gb_elab_mod.specs.Steps.{by_rule, conditions, params_if, result_if, said_around, step_given}
+use Rattle.gb_elab_mod.specs.OnPrograms.{by_rule, conditions, params_if, result_if, said_around}
+use Rattle.gb_elab_mod.specs.Steps.{step_given}
 use Rattle.gb_pr.specs.ByEquiv as by_equiv
 use Rattle.gb_pr.specs.ByPhoare as by_phoare
 use Rattle.gb_pr.specs.Rows.{IsTypedRule}
@@ -82,10 +83,10 @@ module _ (ds : scope.Declarations) (scoped : IsTypedScope (declared ds)) (q : Se
   around_typed : (a b : Node) (r : ProcRef) → IsThere (procedure here r) → (u : Term × Term) → said_around ds q a b r ≡ given u → IsAround r u
   unfolding said_around
   around_typed a b r j u h =
-      let x = given_bind (elaborated a (unary ds q (params_if (procedure_of ds r))) [] (Some ty.Bool)) _ u h in
-      let y = given_bind (elaborated b (unary ds q (result_if (procedure_of ds r))) [] (Some ty.Bool)) (λ (f : Term). given (x.0, f)) u x.2 in
-      let pre = condition here (ambient ds q) [] (fits ds scoped q t ls rs) refl (before (procedure here r)) (params_if (procedure_of ds r)) (params_stand ds scoped q t ls rs r j (procedure_of ds r) refl) in
-      let z = elaborated_typed a (with_own here (before (procedure here r))) (unary ds q (params_if (procedure_of ds r))) [] pre (Some ty.Bool) tt x.0 x.1 in
+      let x = given_bind (elaborated a (unary ds q (params_if (procedure_type ds None r))) [] (Some ty.Bool)) _ u h in
+      let y = given_bind (elaborated b (unary ds q (result_if (procedure_type ds None r))) [] (Some ty.Bool)) (λ (f : Term). given (x.0, f)) u x.2 in
+      let pre = condition here (ambient ds q) [] (fits ds scoped q t ls rs) refl (before (procedure here r)) (params_if (procedure_type ds None r)) (params_stand ds scoped q t ls rs r j (procedure_type ds None r) refl) in
+      let z = elaborated_typed a (with_own here (before (procedure here r))) (unary ds q (params_if (procedure_type ds None r))) [] pre (Some ty.Bool) tt x.0 x.1 in
       subst (IsAround r) (given_is (x.0, y.0) u y.2) (record { typed = z.typed; truth = z.wanted }, after_typed ds scoped q t b r j y.0 y.1)
 
   abbrev Typed : Rule → Type 0

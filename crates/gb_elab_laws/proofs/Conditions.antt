@@ -13,7 +13,7 @@ use Rattle.gb_steps.specs.declared.step.ProbabilityRule.TheVariants.{ByEquiv, By
 use Rattle.gb_steps.specs.declared.step.Rule.{Rule}
 use Rattle.gb_steps.specs.declared.step.Rule.TheVariants as rule
 use Rattle.gb_chances.specs.Chances.{Bounded, Compared, bounded_of, chances_of}
-use Rattle.gb_elab_mod.specs.Steps.{by_equiv_rule, by_phoare_rule, by_rule, conditions, related, said_around}
+use Rattle.gb_elab_mod.specs.OnPrograms.{by_equiv_rule, by_phoare_rule, by_rule, conditions, related, said_around}
 use Rattle.gb_elab_laws.proofs.Given.{given_bind, given_is}
 
 -- It is one of these steps, with conditions that are said of the procedures whose probabilities the conclusion compares, or a step that

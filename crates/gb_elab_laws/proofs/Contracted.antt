@@ -11,7 +11,7 @@ use Rattle.gb_terms.specs.declared.term.Term.{Term}
 use Rattle.gb_terms.specs.declared.term.Head.TheVariants.{Assign, Sample, Call', If', While'}
 use Rattle.gb_terms.specs.declared.term.Instr.{Instr}
 use Rattle.gb_goal.specs.Scope as scope
-use Rattle.gb_goal.specs.Scope.{procedure_of}
+use Rattle.gb_goal.specs.Interfaces.{procedure_type}
 use Rattle.gb_goal.specs.Goal.{Goal, goal_of}
 use Rattle.gb_goal.specs.Goal.Code.{body, procedure as of_procedure}
 use Rattle.gb_goal.specs.Goal.Goal.{hoare, phoare, equiv, ambient as other_form}
@@ -37,7 +37,8 @@ use Rattle.gb_typing.specs.Typing.{IsForm, IsThere, before, after}
 use Rattle.gb_typing.specs.Goals.{IsGoalOver}
 use Rattle.gb_names.specs.Environment.{ambient, relational, unary}
 use Rattle.gb_elab.specs.Forms.{elaborated}
-use Rattle.gb_elab_mod.specs.Steps.{call_rule, contract_at, contract_of, contract_of_both, last_procedure, params_if, procedure_called, result_if, step_given, contract_on}
+use Rattle.gb_elab_mod.specs.OnPrograms.{call_rule, contract_at, contract_of, contract_of_both, last_procedure, params_if, procedure_called, result_if, contract_on}
+use Rattle.gb_elab_mod.specs.Steps.{step_given}
 use Rattle.gb_elab_mod.specs.Uses.{used}
 use Rattle.gb_call.specs.Call.{IsContract}
 use Rattle.gb_call.specs.LastCall.{LastCall, behind, last_call, of_statement}
@@ -129,22 +130,22 @@ module _ (ds : scope.Declarations) (scoped : IsTypedScope (declared ds)) (q : Se
     of_contracts is js p g f b d m n None e u i k h = unfit_typed k h
     of_contracts is js p g f b d m n (Some r) e None i k h = unfit_typed k h
     of_contracts is js p g f b d m n (Some r) e (Some o) i k h =
-        let x = given_bind (elaborated m (relational ds q (params_if (procedure_of ds r)) (params_if (procedure_of ds o))) [] (Some ty.Bool)) _ k h in
-        let y = given_bind (elaborated n (relational ds q (result_if (procedure_of ds r)) (result_if (procedure_of ds o))) [] (Some ty.Bool)) (λ (f : Term). given (rule.Call (record { acts = on.All; pre = x.0; post = f }))) k x.2 in
+        let x = given_bind (elaborated m (relational ds q (params_if (procedure_type ds None r)) (params_if (procedure_type ds None o))) [] (Some ty.Bool)) _ k h in
+        let y = given_bind (elaborated n (relational ds q (result_if (procedure_type ds None r)) (result_if (procedure_type ds None o))) [] (Some ty.Bool)) (λ (f : Term). given (rule.Call (record { acts = on.All; pre = x.0; post = f }))) k x.2 in
         let s : Contract = record { acts = on.All; pre = x.0; post = y.0 } in
         let pre : IsThere (procedure here r) → IsThere (procedure here o) → IsForm (with_sides here (before (procedure here r)) (before (procedure here o))) x.0 = (λ j l.
         let fit =
-        conditions here (ambient ds q) [] (fits ds scoped q t ls rs) refl (before (procedure here r)) (before (procedure here o)) (params_if (procedure_of ds r)) (params_if (procedure_of ds o))
-        (params_stand ds scoped q t ls rs r j (procedure_of ds r) refl) (params_stand ds scoped q t ls rs o l (procedure_of ds o) refl) in
+        conditions here (ambient ds q) [] (fits ds scoped q t ls rs) refl (before (procedure here r)) (before (procedure here o)) (params_if (procedure_type ds None r)) (params_if (procedure_type ds None o))
+        (params_stand ds scoped q t ls rs r j (procedure_type ds None r) refl) (params_stand ds scoped q t ls rs o l (procedure_type ds None o) refl) in
         let z =
-        elaborated_typed m (with_sides here (before (procedure here r)) (before (procedure here o))) (relational ds q (params_if (procedure_of ds r)) (params_if (procedure_of ds o))) [] fit (Some ty.Bool) tt x.0 x.1 in
+        elaborated_typed m (with_sides here (before (procedure here r)) (before (procedure here o))) (relational ds q (params_if (procedure_type ds None r)) (params_if (procedure_type ds None o))) [] fit (Some ty.Bool) tt x.0 x.1 in
         record { typed = z.typed; truth = z.wanted }) in
         let post : IsThere (procedure here r) → IsThere (procedure here o) → IsForm (with_sides here (after (procedure here r)) (after (procedure here o))) y.0 = (λ j l.
         let fit =
-        conditions here (ambient ds q) [] (fits ds scoped q t ls rs) refl (after (procedure here r)) (after (procedure here o)) (result_if (procedure_of ds r)) (result_if (procedure_of ds o))
-        (result_stands ds scoped q t ls rs r j (procedure_of ds r) refl) (result_stands ds scoped q t ls rs o l (procedure_of ds o) refl) in
+        conditions here (ambient ds q) [] (fits ds scoped q t ls rs) refl (after (procedure here r)) (after (procedure here o)) (result_if (procedure_type ds None r)) (result_if (procedure_type ds None o))
+        (result_stands ds scoped q t ls rs r j (procedure_type ds None r) refl) (result_stands ds scoped q t ls rs o l (procedure_type ds None o) refl) in
         let z =
-        elaborated_typed n (with_sides here (after (procedure here r)) (after (procedure here o))) (relational ds q (result_if (procedure_of ds r)) (result_if (procedure_of ds o))) [] fit (Some ty.Bool) tt y.0 y.1 in
+        elaborated_typed n (with_sides here (after (procedure here r)) (after (procedure here o))) (relational ds q (result_if (procedure_type ds None r)) (result_if (procedure_type ds None o))) [] fit (Some ty.Bool) tt y.0 y.1 in
         record { typed = z.typed; truth = z.wanted }) in
         subst CallTyped (given_is (rule.Call s) k y.2)
         (subst (IsTypedRule here (rule.Call s) ls rs) (sym f)
@@ -155,16 +156,16 @@ module _ (ds : scope.Declarations) (scoped : IsTypedScope (declared ds)) (q : Se
     unfolding contract_of
     of_contract us is G f b a put m n None e k h = unfit_typed k h
     of_contract us is G f b a put m n (Some r) e k h =
-        let x = given_bind (elaborated m (unary ds q (params_if (procedure_of ds r))) [] (Some ty.Bool)) _ k h in
-        let y = given_bind (elaborated n (unary ds q (result_if (procedure_of ds r))) [] (Some ty.Bool)) (λ (f : Term). given (rule.Call (record { acts = a; pre = x.0; post = f }))) k x.2 in
+        let x = given_bind (elaborated m (unary ds q (params_if (procedure_type ds None r))) [] (Some ty.Bool)) _ k h in
+        let y = given_bind (elaborated n (unary ds q (result_if (procedure_type ds None r))) [] (Some ty.Bool)) (λ (f : Term). given (rule.Call (record { acts = a; pre = x.0; post = f }))) k x.2 in
         let s : Contract = record { acts = a; pre = x.0; post = y.0 } in
         let pre : IsThere (procedure here r) → IsForm (with_own here (before (procedure here r))) x.0 = (λ j.
-        let fit = condition here (ambient ds q) [] (fits ds scoped q t ls rs) refl (before (procedure here r)) (params_if (procedure_of ds r)) (params_stand ds scoped q t ls rs r j (procedure_of ds r) refl) in
-        let z = elaborated_typed m (with_own here (before (procedure here r))) (unary ds q (params_if (procedure_of ds r))) [] fit (Some ty.Bool) tt x.0 x.1 in
+        let fit = condition here (ambient ds q) [] (fits ds scoped q t ls rs) refl (before (procedure here r)) (params_if (procedure_type ds None r)) (params_stand ds scoped q t ls rs r j (procedure_type ds None r) refl) in
+        let z = elaborated_typed m (with_own here (before (procedure here r))) (unary ds q (params_if (procedure_type ds None r))) [] fit (Some ty.Bool) tt x.0 x.1 in
         record { typed = z.typed; truth = z.wanted }) in
         let post : IsThere (procedure here r) → IsForm (with_own here (after (procedure here r))) y.0 = (λ j.
-        let fit = condition here (ambient ds q) [] (fits ds scoped q t ls rs) refl (after (procedure here r)) (result_if (procedure_of ds r)) (result_stands ds scoped q t ls rs r j (procedure_of ds r) refl) in
-        let z = elaborated_typed n (with_own here (after (procedure here r))) (unary ds q (result_if (procedure_of ds r))) [] fit (Some ty.Bool) tt y.0 y.1 in
+        let fit = condition here (ambient ds q) [] (fits ds scoped q t ls rs) refl (after (procedure here r)) (result_if (procedure_type ds None r)) (result_stands ds scoped q t ls rs r j (procedure_type ds None r) refl) in
+        let z = elaborated_typed n (with_own here (after (procedure here r))) (unary ds q (result_if (procedure_type ds None r))) [] fit (Some ty.Bool) tt y.0 y.1 in
         record { typed = z.typed; truth = z.wanted }) in
         subst CallTyped (given_is (rule.Call s) k y.2)
         (subst (IsTypedRule here (rule.Call s) ls rs) (sym f) (put x.0 y.0 (contract_typed us is b r x.0 y.0 pre post a (last_call is) refl (procedure_same is ∙ e))))

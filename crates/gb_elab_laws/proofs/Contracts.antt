@@ -5,7 +5,8 @@ use Rattle.gb_core.specs.declared.ty.Ty.TheVariants as ty
 use Rattle.gb_terms.specs.declared.module.ProcRef.{ProcRef}
 use Rattle.gb_terms.specs.declared.term.Instr.{Instr}
 use Rattle.gb_terms.specs.declared.term.Term.{Term}
-use Rattle.gb_goal.specs.Scope.{Declarations, procedure_of}
+use Rattle.gb_goal.specs.Interfaces.{procedure_type}
+use Rattle.gb_goal.specs.Scope.{Declarations}
 use Rattle.gb_goal.specs.Goal.{Goal, goal_of}
 use Rattle.gb_goal.specs.Goal.Code.{body, procedure}
 use Rattle.gb_goal.specs.Goal.Goal.{hoare, phoare, equiv, ambient}
@@ -22,7 +23,7 @@ use Rattle.gb_script.specs.declared.head.Head.TheVariants as text
 use Rattle.gb_script.specs.declared.tree.Node.{Node}
 use Rattle.gb_names.specs.Environment.{relational, unary}
 use Rattle.gb_elab.specs.Forms.{elaborated}
-use Rattle.gb_elab_mod.specs.Steps.{call_rule, contract_at, contract_of, contract_of_both, contract_on, last_procedure, params_if, result_if}
+use Rattle.gb_elab_mod.specs.OnPrograms.{call_rule, contract_at, contract_of, contract_of_both, contract_on, last_procedure, params_if, result_if}
 use Rattle.gb_elab_mod.specs.Uses.{used}
 use Rattle.gb_elab_laws.proofs.Given.{given_bind, given_is}
 
@@ -32,8 +33,8 @@ module _ (ds : Declarations) (q : Sequent) (P : Rule → Type 0) (called : (s : 
   unfolding contract_of
   of_contract a m n None k h = subst P (given_is (rule.OnBodies on_bodies.Unfit) k h) unfit
   of_contract a m n (Some r) k h =
-      let x = given_bind (elaborated m (unary ds q (params_if (procedure_of ds r))) [] (Some ty.Bool)) _ k h in
-      let y = given_bind (elaborated n (unary ds q (result_if (procedure_of ds r))) [] (Some ty.Bool)) (λ (f : Term). given (rule.Call (record { acts = a; pre = x.0; post = f }))) k x.2 in
+      let x = given_bind (elaborated m (unary ds q (params_if (procedure_type ds None r))) [] (Some ty.Bool)) _ k h in
+      let y = given_bind (elaborated n (unary ds q (result_if (procedure_type ds None r))) [] (Some ty.Bool)) (λ (f : Term). given (rule.Call (record { acts = a; pre = x.0; post = f }))) k x.2 in
       subst P (given_is (rule.Call (record { acts = a; pre = x.0; post = y.0 })) k y.2) (called (record { acts = a; pre = x.0; post = y.0 }))
 
   of_both : (a : Acts) (m n : Node) (o u : Option ProcRef) (k : Rule) → contract_of_both ds q a m n o u ≡ given k → P k
@@ -41,8 +42,8 @@ module _ (ds : Declarations) (q : Sequent) (P : Rule → Type 0) (called : (s : 
   of_both a m n None u k h = subst P (given_is (rule.OnBodies on_bodies.Unfit) k h) unfit
   of_both a m n (Some r) None k h = subst P (given_is (rule.OnBodies on_bodies.Unfit) k h) unfit
   of_both a m n (Some r) (Some u) k h =
-      let x = given_bind (elaborated m (relational ds q (params_if (procedure_of ds r)) (params_if (procedure_of ds u))) [] (Some ty.Bool)) _ k h in
-      let y = given_bind (elaborated n (relational ds q (result_if (procedure_of ds r)) (result_if (procedure_of ds u))) [] (Some ty.Bool)) (λ (f : Term). given (rule.Call (record { acts = a; pre = x.0; post = f }))) k x.2 in
+      let x = given_bind (elaborated m (relational ds q (params_if (procedure_type ds None r)) (params_if (procedure_type ds None u))) [] (Some ty.Bool)) _ k h in
+      let y = given_bind (elaborated n (relational ds q (result_if (procedure_type ds None r)) (result_if (procedure_type ds None u))) [] (Some ty.Bool)) (λ (f : Term). given (rule.Call (record { acts = a; pre = x.0; post = f }))) k x.2 in
       subst P (given_is (rule.Call (record { acts = a; pre = x.0; post = y.0 })) k y.2) (called (record { acts = a; pre = x.0; post = y.0 }))
 
   of_bodies : (a : Acts) (m n : Node) (is js : List Instr) (k : Rule) → contract_on ds q a m n is js ≡ given k → P k

@@ -7,11 +7,10 @@ use Rattle.gb_core.specs.declared.ty.Ty.TheVariants as ty
 use Rattle.gb_core.specs.declared.ty.Ty.TheOpen as ty_layer
 use Rattle.gb_core.specs.declared.var.Var.{Var}
 use Rattle.gb_core.specs.declared.var.Var.TheVariants as var
-use Rattle.gb_terms.specs.declared.decl.Proc.{Proc}
 use Rattle.gb_terms.specs.declared.decl.TypedName.{TypedName}
 use Rattle.gb_terms.specs.declared.module.ProcRef.{ProcRef}
 use Rattle.gb_goal.specs.Scope as scope
-use Rattle.gb_goal.specs.Scope.{procedure_of}
+use Rattle.gb_goal.specs.Interfaces.{procedure_type}
 use Rattle.gb_terms.specs.declared.op.Side.{Side}
 use Rattle.gb_terms.specs.declared.op.Side.TheVariants as side
 use Rattle.gb_terms.specs.declared.term.Cmd.{Cmd}
@@ -27,10 +26,10 @@ use Rattle.gb_meaning.specs.Commands.{terms_in}
 use Rattle.gb_laws.specs.Programs.{variable_type, HaveTypes, Take, HaveFiniteTypes}
 use Rattle.gb_typing.specs.Modules.{ProcedureType}
 use Rattle.gb_typing.specs.Context.{Context, erased, of_program, procedure}
-use Rattle.gb_typing.specs.Programs.{type_of_procedure, IsExpression, AreArguments, IsCall, IsStatement, AreStatements, EachStatement, IsBody}
+use Rattle.gb_typing.specs.Programs.{IsExpression, AreArguments, IsCall, IsStatement, AreStatements, EachStatement, IsBody}
 use mathlib.Core.Former.{Count}
 use Rattle.gb_elab_mod.specs.Occurring.{local, each_local, outcome_local, part_locals, read_locals, returned, row_locals, row_read, sampled as sampled_local, statement_locals, taking, occurring}
-use Rattle.gb_elab_mod.specs.Steps.{outcomes, sampled, last_sampled}
+use Rattle.gb_elab_mod.specs.OnPrograms.{outcomes, sampled, last_sampled}
 use Rattle.gb_elab_laws.specs.Fitting.{AreIn, IsTypeOf}
 use Rattle.gb_elab_laws.proofs.Found.{all_with}
 use Rattle.gb_elab_laws.specs.Reading.{StandIn}
@@ -40,9 +39,9 @@ use Rattle.gb_elab_laws.proofs.Shapes.{parts_are}
 use Rattle.gb_elab_laws.proofs.Types.{distribution_layer, have_finite}
 use Rattle.gb_elab_laws.proofs.Occurring.{reads_stand, stand_both, all_stand}
 
--- what is declared of procedures is what a context says of them
+-- what is known of procedures by declarations is what a context says of them
 abbrev pub AreOfTheirTypes : Context → scope.Declarations → Type 0
-AreOfTheirTypes c ds = (p : ProcRef) (f : Proc) → procedure_of ds p ≡ Some f → IsTypeOf (procedure c p) f
+AreOfTheirTypes c ds = (p : ProcRef) (f : ProcedureType) → procedure_type ds None p ≡ Some f → IsTypeOf (procedure c p) f
 
 -- Typing and the rule see the same samplings at the end.
 
@@ -146,7 +145,7 @@ module _ (c : Context) (ls : List TypedName) where
   arguments_stand (more_of-Term e es) [] h = absurd h
 
   -- what takes the result of a procedure
-  returned_stands : (xs : List Var) (o : Option Proc) (u : Option ProcedureType) (es : List Term) → ((f : Proc) → o ≡ Some f → u ≡ Some (type_of_procedure f)) → IsCall c ls xs u es →
+  returned_stands : (xs : List Var) (o : Option ProcedureType) (u : Option ProcedureType) (es : List Term) → ((f : ProcedureType) → o ≡ Some f → u ≡ Some f) → IsCall c ls xs u es →
       StandIn (Some ls) (returned xs o)
   returned_stands xs None u es k h = tt
   returned_stands xs (Some f) u es k h = taking_stands xs f.result (subst (λ v. IsCall c ls xs v es) (k f refl) h).1
@@ -162,8 +161,8 @@ module _ (c : Context) (ls : List TypedName) where
           stand_both (Some ls) (taking xs (out-Term e).ty) (read_locals e side.Own) (targets_stand xs e k.1) (read_stands e k.0.expression)
       statement_stands (Sample x d) k = stand_both (Some ls) (sampled_local x d) (read_locals d side.Own) (sampling_stands x d k) (read_stands d k.0)
       statement_stands (Call' xs p n es) k =
-          stand_both (Some ls) (returned xs (procedure_of ds p)) (row_read es)
-          (returned_stands xs (procedure_of ds p) (procedure c p) (terms_in es) (λ f e. (known p f e).there) k) (call_stands xs (procedure c p) es k)
+          stand_both (Some ls) (returned xs (procedure_type ds None p)) (row_read es)
+          (returned_stands xs (procedure_type ds None p) (procedure c p) (terms_in es) (λ f e. (known p f e).there) k) (call_stands xs (procedure c p) es k)
       statement_stands (If' e m a n b) k =
           stand_both (Some ls) (read_locals e side.Own) (row_locals ds a ++ row_locals ds b) (read_stands e k.0.0)
           (stand_both (Some ls) (row_locals ds a) (row_locals ds b) (row_stands a k.1) (row_stands b k.2))

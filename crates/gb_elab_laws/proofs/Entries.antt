@@ -34,7 +34,6 @@ use Rattle.gb_elab_laws.proofs.Types.{spelled_typed}
 use Rattle.gb_elab_laws.proofs.Declared.{declared_in}
 use Rattle.gb_typing.specs.Naming.{NoName}
 use Rattle.gb_models.specs.Speaking.{ScopeSpeaks}
-use Rattle.gb_elab_laws.specs.Calling.{EntriesCall, EntryCalls}
 use Rattle.gb_elab_laws.specs.Fitting.{AreTypes}
 
 -- an abstract type, a name of a type of values, or a constant
@@ -60,15 +59,6 @@ good_speaks ((k, entry.Lemma q order) ∷ ds) g = absurd g.0
 good_speaks ((k, entry.Operator o) ∷ ds) g = absurd g.0
 good_speaks ((k, entry.AbstractOperator o) ∷ ds) g = absurd g.0
 good_speaks ((k, entry.Terminating p) ∷ ds) g = absurd g.0
-
--- so none of their procedures calls anything
-good_calls : (ds : scope.Declarations) (e : Entry) → IsGood e → EntryCalls ds e
-good_calls ds (entry.Module m) g = absurd g
-good_calls ds _ g = tt
-
-all_call : (ds es : scope.Declarations) → AreGood es → EntriesCall ds es
-all_call ds [] g = tt
-all_call ds (e ∷ es) g = (good_calls ds e.1 g.0, all_call ds es g.1)
 
 good_behind : (ds : scope.Declarations) (n : Name) (e : Entry) → AreGood ds → IsGood e → AreGood (ds ++ (n, e) ∷ [])
 good_behind [] n e h k = (k, tt)
@@ -184,10 +174,6 @@ operator_speaks c x (entry.ModuleType y) w = absurd w
 operator_speaks c x (entry.Constant a) w = absurd w
 operator_speaks c x (entry.Terminating a) w = absurd w
 
-operator_calls : (ds : scope.Declarations) (c : Context) (e : Entry) → IsOperatorIn c e → EntryCalls ds e
-operator_calls ds c (entry.Module m) w = absurd w
-operator_calls ds c _ w = tt
-
 -- what stands for an operator claims nothing
 defined_other : (ds : scope.Declarations) (gs r : List Node) (t : Node) (e : Entry) → defined ds gs r t ≡ given e → is_claim e ≡ false
 unfolding defined
@@ -252,24 +238,6 @@ speaks_by_head ds s _ ps p all e = cc
 
 pub entries_speak : (ds : scope.Declarations) → IsTypedScope (declared ds) → (t : Node) (all : scope.Declarations) → entries_given ds t ≡ given all → ScopeSpeaks NoName (declared all)
 entries_speak ds s t all e = speaks_by_head ds s (head_of t) (parts_of t) (place_of t) all e
-
--- it declares no module
-calls_by_head : (ds : scope.Declarations) → IsTypedScope (declared ds) → (h : Head) (ps : List Node) (p : Place) (all : scope.Declarations) → entries_by ds h ps p ≡ given all → EntriesCall (ds ++ all) all
-calls_by_head ds s head.TypeDeclaration (x ∷ d ∷ []) p all e =
-    let a = given_bind (free ds x) _ all e in
-    let names = declared_in ds s in
-    all_call (ds ++ all) all (types_good ds names.types x (head_of d) (parts_of d) (place_of d) all a.2)
-calls_by_head ds s head.OperatorDeclaration (x ∷ d ∷ []) p all e =
-    let a = given_bind (free ds x) _ all e in
-    let b = given_bind (operator_entry ds (head_of d) (parts_of d) (place_of d)) _ all a.2 in
-    subst (λ z. EntriesCall (ds ++ z) z) (given_is (only x b.0) all b.2)
-    (operator_calls (ds ++ only x b.0) (context_of (declared ds)) b.0 (operator_typed ds (context_of (declared ds)) (declared_in ds s) (head_of d) (parts_of d) (place_of d) b.0 b.1), tt)
-calls_by_head ds s head.ModuleType (x ∷ ps ∷ ts ∷ []) p all e =
-    let t = module_type_is ds x (parts_of ps) (parts_of ts) all e in subst (λ z. EntriesCall (ds ++ z) z) t.is (tt, tt)
-calls_by_head ds s _ ps p all e = cc
-
-pub entries_call : (ds : scope.Declarations) → IsTypedScope (declared ds) → (t : Node) (all : scope.Declarations) → entries_given ds t ≡ given all → EntriesCall (ds ++ all) all
-entries_call ds s t all e = calls_by_head ds s (head_of t) (parts_of t) (place_of t) all e
 
 -- and no lemma
 others_by_head : (ds : scope.Declarations) (h : Head) (ps : List Node) (p : Place) (all : scope.Declarations) → entries_by ds h ps p ≡ given all → ClaimNothing all

@@ -1,35 +1,31 @@
 -- The contexts of statements, programs and functions fit their environments.
-use Rattle.std.proofs.Common.{◌≡◌, ℕ, zero, suc, ◌<◌, length, map, get_or, arith, Bool, true, false, if◌then◌else◌, List, [], ◌∷◌, ◌++◌, Option, Some, None, bytes_eq, refl, ap, sym, ◌∙◌, subst}
-use Rattle.std.proofs.lemmas.Slice.Eq.{bytes_eq-Decides}
+use Rattle.std.proofs.Common.{◌≡◌, ℕ, zero, suc, ◌<◌, length, map, get_or, arith, Bool, true, false, if◌then◌else◌, List, [], ◌∷◌, ◌++◌, Option, Some, None, option_map, bytes_eq, refl, ap, sym, ◌∙◌, subst}
 use Rattle.std.proofs.lemmas.Bool.{false≢true}
 use Rattle.gb_terms.specs.declared.decl.Module.{Module}
-use Rattle.gb_terms.specs.declared.decl.Param.{Param}
 use Rattle.gb_terms.specs.declared.decl.Proc.{Proc}
 use Rattle.gb_terms.specs.declared.decl.TypedName.{TypedName}
 use Rattle.gb_terms.specs.declared.module.Bind.{Bind}
-use Rattle.gb_terms.specs.declared.module.Mexp.{Mexp}
-use Rattle.gb_terms.specs.declared.module.Mexp.TheVariants.{Name as named, Apply'}
+use Rattle.gb_terms.specs.declared.module.ProcRef.{ProcRef}
 use Rattle.gb_goal.specs.Scope as scope
-use Rattle.gb_goal.specs.Scope.{entry_of, as_module, module_of, proc_of, proc_if_plain, proc_in, proc_at, procedure_of}
+use Rattle.gb_goal.specs.Interfaces.{procedure_type}
+use Rattle.gb_goal.specs.Scope.{entry_of, as_module, module_of, procedure_of}
+use Rattle.gb_goal.proofs.Interfaces.{declared_type}
 use Rattle.gb_goal.specs.declared.scope.Entry.{Entry}
 use Rattle.gb_goal.specs.declared.scope.Entry.TheVariants as entry
 use Rattle.gb_goal.specs.declared.sequent.Sequent.{Sequent}
 use Rattle.gb_meaning.specs.Names.{Name}
 use Rattle.gb_meaning.specs.Written.{local_type}
-use Rattle.gb_laws.specs.Finite.{IsVariableType}
 use Rattle.gb_holds.specs.Declared.{Declarations, declaration_of, declared, concrete_module}
-use Rattle.gb_holds.specs.Modules.{Procedures, found}
-use Rattle.gb_typing.specs.Modules.{ProcedureType, Interface, functor_type, of_functor_type}
-use Rattle.gb_typing.specs.Modules as typing
+use Rattle.gb_typing.specs.Modules.{ProcedureType}
 use Rattle.gb_laws.specs.Typing.{binder, IsMemory}
 use Rattle.gb_laws.specs.Typing.Binder.{program as module_binder}
-use Rattle.gb_typing.specs.Context.{Context, erased, frame_of, of_program}
+use Rattle.gb_typing.specs.Context.{Context, erased, frame_of, of_program, procedure}
 use Rattle.gb_typing.specs.Typing.{IsFrame}
 use Rattle.gb_terms.specs.declared.op.Side.TheVariants as side
 use Rattle.gb_typing.specs.Programs.{HaveVariableTypes, type_of_procedure}
 use Rattle.gb_typing.specs.Formulas.{with_module}
 use Rattle.gb_typing.specs.Sequents.{one, of_sequent, two, with_modules, AreBinders, IsTypedSequent}
-use Rattle.gb_typing.specs.Scopes.{interface_with, procedure_types, nothing, with_declared, with_each, context_of, AreProcedures, AreTypedAfter, IsTypedScope}
+use Rattle.gb_typing.specs.Scopes.{nothing, with_declared, with_each, context_of, AreProcedures, AreTypedAfter, IsTypedScope}
 use Rattle.gb_typing.proofs.Operators.{declared_last}
 use Rattle.gb_typing.proofs.Located.{typed_there}
 use Rattle.gb_typing.proofs.Lifted.{sequent_outermost}
@@ -50,10 +46,9 @@ use Rattle.gb_elab_laws.proofs.Recalled.{goal_stands}
 use Rattle.gb_elab_laws.proofs.Found.{all_with, found as found_name}
 
 -- A declared module stands under its name with its globals, and its procedures are typed.
-record Stands (d : Context) (n : Name) (m : Module) : Type 0 where
-  context : Context
-  procedures : AreProcedures context m [] m.procs
-  there : m.params ≡ [] → d.modules.interfaces n ≡ Some (record { lacks = []; procedures = procedure_types m.procs })
+pub record Stands (d : Context) (n : Name) (m : Module) : Type 0 where
+  pub context : Context
+  pub procedures : AreProcedures context m [] m.procs
   globals : (x : Name) → d.global n x ≡ local_type m.globals x
   types : HaveVariableTypes m.globals
 
@@ -72,10 +67,6 @@ stands ((k, d) ∷ ds) before c w n m e = step (bytes_eq n k) refl (stands ds (b
           procedures = v.1.procs;
           globals = λ x. rest.globals x ∙ ap (λ (b : Bool). if b then local_type r.globals x else c.global n x) i;
           types = v.1.globals;
-          there = λ p.
-              rest.interfaces
-              ∙ ap (λ (b : Bool). if b then Some (interface_with c.modules.types r.params (procedure_types r.procs)) else c.modules.interfaces n) i
-              ∙ ap (λ ps. Some (interface_with c.modules.types ps (procedure_types r.procs))) p;
         })
     here i _ v h = cc
 
@@ -84,61 +75,44 @@ stands ((k, d) ∷ ds) before c w n m e = step (bytes_eq n k) refl (stands ds (b
     step true i f h = here i d w (same_some d (entry.Module m) h)
     step false i f h = f h
 
--- the type of a procedure, which is one of values
-abbrev pub HasType : Option ProcedureType → Proc → Type 0
-HasType o f = HaveVariableTypes f.params × IsVariableType f.result × (o ≡ Some (type_of_procedure f))
-
--- a procedure of a typed module
-pub typed_among : (c : Context) (m : Module) (earlier : Procedures ProcedureType) (ps : List Proc) → AreProcedures c m earlier ps → (n : Name) (f : Proc) → proc_of ps n ≡ Some f →
-    HasType (found (procedure_types ps) n) f
-typed_among c m earlier [] w n f e = none_some f e
-typed_among c m earlier (p ∷ ps) w n f e = step (bytes_eq n p.name) (typed_among c m (earlier ++ (p.name, type_of_procedure p) ∷ []) ps w.2 n f) e
+module_entry : (ds : scope.Declarations) (n : Name) (m : Module) → module_of ds n ≡ Some m → entry_of ds n ≡ Some (entry.Module m)
+module_entry ds n m e = step (entry_of ds n) refl e
   where
-    step : (b : Bool) → (proc_of ps n ≡ Some f → HasType (found (procedure_types ps) n) f) → (if b then Some p else proc_of ps n) ≡ Some f →
-        HasType (if b then Some (type_of_procedure p) else found (procedure_types ps) n) f
-    step true g e =
-        let s = same_some p f e in
-        let params = subst (λ (z : Proc). HaveVariableTypes z.params) s (have_front p.params p.locals w.1.body.locals) in
-        (params, subst (λ (z : Proc). IsVariableType z.result) s w.1.result, ap (λ z. Some (type_of_procedure z)) s)
-    step false g e = g e
+    step : (o : Option Entry) → entry_of ds n ≡ o → as_module o ≡ Some m → entry_of ds n ≡ Some (entry.Module m)
+    step (Some (entry.Module r)) i h = i ∙ ap (λ z. Some (entry.Module z)) (same_some r m h)
+    step _ i h = none_some m h
 
-plain_is : (ps : List Param) (qs : List Proc) (n : Name) (f : Proc) → proc_if_plain ps qs n ≡ Some f → (ps ≡ []) × (proc_of qs n ≡ Some f)
-plain_is [] qs n f e = (refl, e)
-plain_is (p ∷ ps) qs n f e = none_some f e
+pub module_stands : (ds : scope.Declarations) → IsTypedScope (declared ds) → (n : Name) (m : Module) → module_of ds n ≡ Some m → Stands (context_of (declared ds)) n m
+module_stands ds w n m e = stands ds [] nothing w n m (module_entry ds n m e)
 
--- a declared procedure has its type
-procedure_named : (ds : scope.Declarations) → IsTypedScope (declared ds) → (n g : Name) (f : Proc) → proc_in (as_module (entry_of ds n)) g ≡ Some f →
-    IsTypeOf (typing.procedure_of ((context_of (declared ds)).modules.interfaces n) g) f
-procedure_named ds w n g f e = of_entry (entry_of ds n) refl e
+-- what is known of a procedure by declarations is the type of a declared one
+of_declared : (ds : scope.Declarations) (r : ProcRef) (t : ProcedureType) → procedure_type ds None r ≡ Some t → (p : Proc) × (procedure_of ds r ≡ Some p) × (type_of_procedure p ≡ t)
+of_declared ds r t e = step (procedure_of ds r) refl
   where
-    of_entry : (o : Option Entry) → entry_of ds n ≡ o → proc_in (as_module o) g ≡ Some f → IsTypeOf (typing.procedure_of ((context_of (declared ds)).modules.interfaces n) g) f
-    of_entry None i h = none_some f h
-    of_entry (Some (entry.Module m)) i h =
-        let p = plain_is m.params m.procs g f h in
-        let s = stands ds [] nothing w n m i in
-        let t = typed_among s.context m [] m.procs s.procedures g f p.1 in
-        record {
-          there = ap (λ o. typing.procedure_of o g) (s.there p.0) ∙ t.2;
-          params = t.0;
-          result = t.1;
-        }
-    of_entry (Some _) i h = none_some f h
+    step : (o : Option Proc) → procedure_of ds r ≡ o → (p : Proc) × (procedure_of ds r ≡ Some p) × (type_of_procedure p ≡ t)
+    step None h = none_some t (sym (declared_type ds r ∙ ap (option_map type_of_procedure) h) ∙ e)
+    step (Some p) h = (p, h, same_some (type_of_procedure p) t (sym (declared_type ds r ∙ ap (option_map type_of_procedure) h) ∙ e))
 
-pub declared_procedure : (ds : scope.Declarations) → IsTypedScope (declared ds) → (m : Mexp) (g : Name) (f : Proc) → proc_at ds m g ≡ Some f →
-    IsTypeOf (typing.procedure_type (context_of (declared ds)).modules (record { «module» = m; name = g })) f
-declared_procedure ds w (named n) g f e = procedure_named ds w n g f e
-declared_procedure ds w (Apply' n k args) g f e = none_some f e
+-- a procedure that is known by declarations has its type in the context of a goal
+known_in_goal : (ds : scope.Declarations) → IsTypedScope (declared ds) → (q : Sequent) → AreBinders (context_of (declared ds)) q.modules → (fs : List (List TypedName)) (r : ProcRef) (t : ProcedureType) →
+    procedure_type ds None r ≡ Some t → IsTypeOf (procedure (of_sequent (context_of (declared ds)) q fs) r) t
+known_in_goal ds w q b fs r t e =
+    let d = of_declared ds r t e in
+    let k = typed_there ds w q b fs r d.0 d.1 in
+    let body = k.typed in
+    subst (IsTypeOf (procedure (of_sequent (context_of (declared ds)) q fs) r)) d.2
+    (record { there = k.type; params = have_front d.0.params d.0.locals body.body.locals; result = body.result })
+
+pub goal_procedure : (ds : scope.Declarations) → IsTypedScope (declared ds) → (q : Sequent) (t : IsTypedSequent (context_of (declared ds)) q) (r : ProcRef) (a : ProcedureType) →
+    procedure_type ds None r ≡ Some a → IsTypeOf (procedure (of_sequent (context_of (declared ds)) q t.frames) r) a
+goal_procedure ds w q t r a e = known_in_goal ds w q t.modules t.frames r a e
 
 -- the globals of a declared module stand in the context of the scope
 pub declared_globals : (ds : scope.Declarations) → IsTypedScope (declared ds) → (n : Name) (m : Module) → module_of ds n ≡ Some m → HasGlobals (context_of (declared ds)).global n m
-declared_globals ds w n m e x v f = step (entry_of ds n) refl e
-  where
-    step : (o : Option Entry) → entry_of ds n ≡ o → as_module o ≡ Some m → ((context_of (declared ds)).global n v.name ≡ Some v.ty) × IsVariableType v.ty
-    step (Some (entry.Module r)) i h =
-        let s = stands ds [] nothing w n m (i ∙ ap (λ z. Some (entry.Module z)) (same_some r m h)) in
-        let k = found_name m.globals x v f in
-        (s.globals v.name ∙ ap (local_type m.globals) k.name ∙ k.frame, k.finite_with false (variables_with false m.globals s.types))
-    step _ i h = none_some m h
+declared_globals ds w n m e x v f =
+    let s = module_stands ds w n m e in
+    let k = found_name m.globals x v f in
+    (s.globals v.name ∙ ap (local_type m.globals) k.name ∙ k.frame, k.finite_with false (variables_with false m.globals s.types))
 
 -- abstract modules leave globals
 globals_left : (c : Context) (bs : List Bind) → (with_modules c bs).global ≡ c.global
@@ -183,6 +157,7 @@ reading_fits m c at vs fit = record {
   declared = fit.declared;
   around = fit.around;
   globals = fit.globals;
+  outside = fit.outside;
   procedures = fit.procedures;
   memories = fit.memories;
   locals = fit.locals;
@@ -201,8 +176,8 @@ context_fits globs ds q fs many none unread h w = record {
   declared = goal_declared ds w q fs;
   around = tt;
   globals = λ e. goal_globals ds w q fs;
-  procedures = λ e p f k.
-      subst (λ bs. IsTypeOf (typing.procedure_type (with_modules (context_of (declared ds)) bs).modules p) f) (sym none) (declared_procedure ds w p.«module» p.name f k);
+  outside = λ e. refl;
+  procedures = λ e. known_in_goal ds w q (subst (AreBinders (context_of (declared ds))) (sym none) tt) fs;
   memories = λ e. goal_memories (declared ds) q fs many;
   locals = λ e i x t k. none_some t (sym (unread i x) ∙ k);
   frames = λ e. goal_frames (declared ds) q fs;
@@ -227,6 +202,7 @@ program_fits c ds m ls names others own h = record {
   declared = names;
   around = own;
   globals = λ e. others;
+  outside = λ e. absurd (false≢true e);
   procedures = λ e. absurd (false≢true e);
   memories = λ e. absurd (false≢true e);
   locals = λ e. absurd (false≢true e);
@@ -243,36 +219,12 @@ function_fits ds w q t ls rs xs ys h k = record {
   declared = goal_declared ds w q t.frames;
   around = tt;
   globals = λ e. goal_globals ds w q t.frames;
+  outside = λ e. absurd (false≢true e);
   procedures = λ e. absurd (false≢true e);
   memories = λ e. goal_memories (declared ds) q t.frames t.memories;
   locals = λ e i x. goal_stands i x (context_of (declared ds)) q t;
   frames = λ e. goal_frames (declared ds) q t.frames;
 }
-
--- a module that is known stays known among the modules of a goal's context
-known_still : (c : Context) (bs : List Bind) → AreBinders c bs → (n : Name) (i : Interface) → c.modules.interfaces n ≡ Some i → (with_modules c bs).modules.interfaces n ≡ Some i
-known_still c [] h n i e = e
-known_still c (b ∷ bs) h n i e = known_still (with_module c b) bs h.1 n i (step (bytes_eq n b.name) refl)
-  where
-    step : (t : Bool) → bytes_eq n b.name ≡ t → (if t then Some (of_functor_type (functor_type c.modules.types (c.modules.types b.ty))) else c.modules.interfaces n) ≡ Some i
-    step true k = none_some i (sym h.0.free ∙ ap c.modules.interfaces (sym ((bytes_eq-Decides n b.name).0 k)) ∙ e)
-    step false k = e
-
-procedure_still : (c : Context) (bs : List Bind) → AreBinders c bs → (n g : Name) (t : ProcedureType) → typing.procedure_of (c.modules.interfaces n) g ≡ Some t →
-    typing.procedure_of ((with_modules c bs).modules.interfaces n) g ≡ Some t
-procedure_still c bs h n g t e = step (c.modules.interfaces n) refl e
-  where
-    step : (o : Option Interface) → c.modules.interfaces n ≡ o → typing.procedure_of o g ≡ Some t → typing.procedure_of ((with_modules c bs).modules.interfaces n) g ≡ Some t
-    step None k f = none_some t f
-    step (Some i) k f = ap (λ o. typing.procedure_of o g) (known_still c bs h n i k) ∙ f
-
--- a declared procedure has its type in the context of a goal
-goal_procedure : (ds : scope.Declarations) → IsTypedScope (declared ds) → (q : Sequent) (t : IsTypedSequent (context_of (declared ds)) q) (m : Mexp) (g : Name) (f : Proc) → proc_at ds m g ≡ Some f →
-    IsTypeOf (typing.procedure_type (of_sequent (context_of (declared ds)) q t.frames).modules (record { «module» = m; name = g })) f
-goal_procedure ds w q t (named n) g f e =
-    let k = procedure_named ds w n g f e in
-    record { there = procedure_still (context_of (declared ds)) q.modules t.modules n g (type_of_procedure f) k.there; params = k.params; result = k.result }
-goal_procedure ds w q t (Apply' n k args) g f e = none_some f e
 
 -- forms of a proof step on one program, and on two, over some of the locals of the goal
 pub one_fits : (ds : scope.Declarations) → IsTypedScope (declared ds) → (q : Sequent) (t : IsTypedSequent (context_of (declared ds)) q) (ls xs : List TypedName) → AreIn true (Some ls) xs →
@@ -285,7 +237,8 @@ one_fits ds w q t ls xs h = record {
   declared = goal_declared ds w q t.frames;
   around = tt;
   globals = λ e. goal_globals ds w q t.frames;
-  procedures = λ e p f k. goal_procedure ds w q t p.«module» p.name f k;
+  outside = λ e. refl;
+  procedures = λ e. goal_procedure ds w q t;
   memories = λ e. goal_memories (declared ds) q t.frames t.memories;
   locals = λ e i x. goal_stands i x (context_of (declared ds)) q t;
   frames = λ e. goal_frames (declared ds) q t.frames;
@@ -301,7 +254,8 @@ two_fit ds w q t ls rs xs ys h k = record {
   declared = goal_declared ds w q t.frames;
   around = tt;
   globals = λ e. goal_globals ds w q t.frames;
-  procedures = λ e p f k. goal_procedure ds w q t p.«module» p.name f k;
+  outside = λ e. refl;
+  procedures = λ e. goal_procedure ds w q t;
   memories = λ e. goal_memories (declared ds) q t.frames t.memories;
   locals = λ e i x. goal_stands i x (context_of (declared ds)) q t;
   frames = λ e. goal_frames (declared ds) q t.frames;
@@ -318,9 +272,8 @@ goal_fits ds w q t = record {
   declared = goal_declared ds w q t.frames;
   around = tt;
   globals = λ e. goal_globals ds w q t.frames;
-  procedures = λ e p f h.
-      let d = declared_procedure ds w p.«module» p.name f h in
-      record { there = (typed_there ds w q t.modules t.frames p f h).type; params = d.params; result = d.result };
+  outside = λ e. refl;
+  procedures = λ e. goal_procedure ds w q t;
   memories = λ e. goal_memories (declared ds) q t.frames t.memories;
   locals = λ e i x. goal_stands i x (context_of (declared ds)) q t;
   frames = λ e. goal_frames (declared ds) q t.frames;

@@ -37,8 +37,8 @@ use Rattle.gb_names.specs.declared.setting.Language.TheVariants.{Formula, Functi
 use Rattle.gb_names.specs.Allowed.{formula, has_judgments, is_program, judgment, stands}
 use Rattle.gb_names.specs.Binders.{bound_by, over_all, quantifier_of}
 use Rattle.gb_names.specs.Environment.{Name, Environment, sampled, sampled_in, speaking, valued, valued_in}
-use Rattle.gb_names.specs.Judgments.{both_procedures, one_procedure, before, after, equivalent}
-use Rattle.gb_names.specs.Names.{constant_at, has_memories, hidden, known_at, memory_at, named, operator_at, path, unit}
+use Rattle.gb_names.specs.Judgments.{both_procedures, called, one_procedure, before, after, equivalent}
+use Rattle.gb_names.specs.Names.{constant_at, covered, has_memories, known_at, memory_at, named, operator_at, path, unit}
 use Rattle.gb_names.specs.Types.{type_of, type_or_number}
 use Rattle.gb_names.specs.Wanted.{truth, wanted}
 use Rattle.gb_names.proofs.Nodes.{by_parts}
@@ -60,7 +60,7 @@ use Rattle.gb_operators.specs.Operators.{comparison, operator_of}
 use Rattle.gb_operators.specs.Rules.{asked, made, rule_for, rule_of, user_made}
 use Rattle.gb_elab.specs.declared.contract.Contract.{Contract}
 use Rattle.gb_elab.specs.OneProcedure.{after_one, always, around, before_one, lossless, relation, with_chance}
-use Rattle.gb_elab.specs.Probability.{before_call, called, chance, chance_here}
+use Rattle.gb_elab.specs.Probability.{before_call, chance, chance_here}
 use Rattle.gb_elab.specs.Globs.{Seen, bare_glob, both_whole}
 use Rattle.gb_elab.specs.Forms.{Arguing, Contracting, Typing, Meaning, Part, annotated, applied, applied_form, application, arguing, arguments, arguments_of, bare, bounded, bracketed, by_rule, call, comparing, contract, contracting, contract_of, declared, elaborated, equivalence, function, hoare, function_typing, last_arguments, meaning, meant, only, operand, operands, operation, operator_alone, probability, projection, quantified, read, simple, summed, typing, under, user_call, value_of, with_side}
 use Rattle.gb_elab_laws.specs.Fitting.{reads_globals, IsFormType, IsFormTypeIf, IsBoundName, IsUsable, AreReadable, IsFitting, IsGiven}
@@ -77,9 +77,9 @@ use Rattle.gb_elab_laws.proofs.Constants.{coin_typed, constant_typed, literal_ty
 use Rattle.gb_elab_laws.proofs.Weighed.{weights_typed}
 use Rattle.gb_elab_laws.proofs.Equations.{equalities_typed}
 use Rattle.gb_elab_laws.proofs.Quantified.{inner_fits, under_all, under_all_fits, binders_may, over_all_typed}
-use Rattle.gb_elab_laws.proofs.Judged.{both_are, one_is, before_fits, after_fits, equivalence_typed}
+use Rattle.gb_elab_laws.proofs.Judged.{both_are, called_is, known_there, one_is, before_fits, after_fits, equivalence_typed}
 use Rattle.gb_elab_laws.proofs.OneProcedure.{IsContract, is_there, before_fits as before_one_fits, after_fits as after_one_fits, around_fits, always_typed, with_chance_typed, lossless_typed}
-use Rattle.gb_elab_laws.proofs.Probable.{AreArguments, call_fits, called_is, chance_typed}
+use Rattle.gb_elab_laws.proofs.Probable.{AreArguments, call_fits, chance_typed}
 use Rattle.gb_elab_laws.proofs.Remembered.{memory_is, remembering}
 use Rattle.gb_elab_laws.proofs.Asked.{Suits, binder_of, IsDomain, IsRule, IsAskable, IsOperand, AreOperands, behind}
 use Rattle.gb_elab_laws.proofs.Askable.{askable}
@@ -142,6 +142,7 @@ module _ (globs : Bool) where
     declared = fit.declared;
     around = fit.around;
     globals = λ e. fit.globals (sym same.0 ∙ e);
+    outside = λ e. fit.outside (sym same.1 ∙ e);
     procedures = λ e. fit.procedures (sym same.1 ∙ e);
     memories = λ e. fit.memories (sym same.2 ∙ e);
     locals = λ e. fit.locals (sym same.2 ∙ e);
@@ -249,7 +250,7 @@ module _ (globs : Bool) where
 
   -- operators of the script that a name is found to mean
   found_operator : (c : Context) (at : Environment) (vs : List Binding) → IsFitting globs c at vs → (x : Name) (o : OperatorType) → operator_at at vs x ≡ Some o → IsUsable (c.operator x) o
-  found_operator c at vs fit x o e = let names = fit.declared in names.usable x o (if_none (hidden at vs x) (operator_named at.declared x) o e)
+  found_operator c at vs fit x o e = let names = fit.declared in names.usable x o (if_none (covered at vs x) (operator_named at.declared x) o e)
 
   no_arguments : (c : Context) (l : Language) (us : List Ty) → 0 ≡ length us → EachTyped globs c l us []
   no_arguments c l [] e = tt
@@ -270,7 +271,7 @@ module _ (globs : Bool) where
       of_script_name : (k : Option Constant) (o : Option OperatorType) → constant_at at vs x ≡ k → operator_at at vs x ≡ o → declared k o x p at vs w ≡ given u → IsGiven globs c at.language w u
       of_script_name (Some k) o i j h =
           let names = fit.declared in
-          let known = names.constants x k (if_none (hidden at vs x) (constant_named at.declared x) k i) in
+          let known = names.constants x k (if_none (covered at vs x) (constant_named at.declared x) k i) in
           wanted_given c at.language w p (literal k) u (k.ty, literal_typed globs c at k known) h
       of_script_name None (Some o) i j h = alone_typed x o p c at w (found_operator c at vs fit x o j) u h
       of_script_name None None i j h =
@@ -441,7 +442,7 @@ module _ (globs : Bool) where
       let s = given_bind (memory_at at vs (text_of m.0) (place_of m.0)) _ u ts.2 in
       let e = given_bind (elaborated b.0 (after_one at n.0.1) vs (Some ty.Bool)) (λ (t : Term). given (chance n.0.0 s.0 ts.0 t)) u s.2 in
       let there = called_is at vs (head_of k.0) (parts_of k.0) (place_of k.0) n.0 n.1 in
-      let known = fit.procedures j.0 n.0.0 n.0.1 there in
+      let known = known_there c at vs fit j.0 n.0.0 n.0.1 there in
       subst (IsGiven globs c at.language w) {x = chance n.0.0 s.0 ts.0 e.0} (given_is _ u e.2)
       (given_from c at.language w ty.Real (chance n.0.0 s.0 ts.0 e.0)
       (chance_typed c at vs fit j.0 n.0.0 n.0.1 there s.0 (memory_is c at vs fit (remembering at.language j.0) (text_of m.0) (place_of m.0) s.0 s.1) ts.0
@@ -561,14 +562,19 @@ module _ (globs : Bool) where
   last_typed (Some a) c at vs fit xs h p ts e = a.1.3 c at vs fit xs h p ts e
   last_typed None c at vs fit xs h p ts e = cc
 
-  argument_parts : (h : Head) (ks : List Known) → GivesArguments (arguing h (parts ks))
-  argument_parts head.Call ks c at vs fit xs h p ts e =
+  part_at : (ks : List Known) (i : ℕ) → slice_get (parts ks) i ≡ option_map (λ k. (k.0, meant k.0)) (slice_get ks i)
+  part_at [] i = refl
+  part_at (k ∷ ks) zero = refl
+  part_at (k ∷ ks) (suc i) = part_at ks i
+
+  -- the arguments of a call are its last part
+  in_last_typed : (ks : List Known) → GivesArguments (last_arguments (slice_get (parts ks) (length (parts ks) - 1)))
+  in_last_typed ks c at vs fit xs h p ts e =
       last_typed (slice_get ks (length (parts ks) - 1)) c at vs fit xs h p ts (ap (λ o. last_arguments o xs p at vs) (sym (part_at ks (length (parts ks) - 1))) ∙ e)
-    where
-      part_at : (ks : List Known) (i : ℕ) → slice_get (parts ks) i ≡ option_map (λ k. (k.0, meant k.0)) (slice_get ks i)
-      part_at [] i = refl
-      part_at (k ∷ ks) zero = refl
-      part_at (k ∷ ks) (suc i) = part_at ks i
+
+  argument_parts : (h : Head) (ks : List Known) → GivesArguments (arguing h (parts ks))
+  argument_parts head.Call ks c at vs fit xs h p ts e = in_last_typed ks c at vs fit xs h p ts e
+  argument_parts head.FunctorCall ks c at vs fit xs h p ts e = in_last_typed ks c at vs fit xs h p ts e
   argument_parts head.List ks c at vs fit xs h p ts e =
       let k = if_refused (nat_lt (length (parts ks)) (length xs)) TypeMismatch p (arguments p at vs [] xs (parts ks)) ts e in
       let r = behind_typed c at vs fit p [] xs ks ts h k.1 in subst (AreArguments globs c xs) r.1 r.2

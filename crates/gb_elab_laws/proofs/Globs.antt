@@ -1,5 +1,5 @@
 -- Equations of all globals of a module are typed.
-use Rattle.std.proofs.Common.{◌≡◌, Bool, true, false, if◌then◌else◌, List, [], ◌∷◌, is_none, is_some, Option, Some, None, bytes_eq, refl, subst}
+use Rattle.std.proofs.Common.{◌≡◌, Bool, true, false, if◌then◌else◌, List, [], ◌∷◌, is_none, is_some, Option, Some, None, refl, subst}
 use Rattle.gb_core.specs.declared.place.Place.{Place}
 use Rattle.gb_core.specs.declared.refusal.Why.TheVariants.{Argument}
 use Rattle.gb_core.specs.declared.ty.Ty.{Ty}
@@ -7,10 +7,12 @@ use Rattle.gb_core.specs.declared.ty.Ty.TheVariants as ty
 use Rattle.gb_core.specs.declared.var.Var.{Var}
 use Rattle.gb_core.specs.declared.var.Var.TheVariants.{Global, Local, Glob}
 use Rattle.gb_terms.specs.declared.decl.TypedName.{TypedName}
+use Rattle.gb_terms.specs.declared.module.Mexp.{Mexp}
 use Rattle.gb_terms.specs.declared.op.Op.TheVariants as op
 use Rattle.gb_terms.specs.declared.op.Side.{Side}
 use Rattle.gb_terms.specs.declared.op.Side.TheVariants as side
 use Rattle.gb_terms.specs.declared.term.Term.{Term}
+use Rattle.gb_terms.specs.SameModules.{mexp_eq}
 use Rattle.gb_script.specs.declared.head.Head.{Head}
 use Rattle.gb_script.specs.declared.head.Head.TheVariants as head
 use Rattle.gb_script.specs.declared.tree.Node.{Node}
@@ -24,10 +26,11 @@ use Rattle.gb_mods.specs.Footprint.{footprint}
 use Rattle.gb_names.specs.declared.bindings.Binding.{Binding}
 use Rattle.gb_names.specs.declared.setting.Variables.{Variables}
 use Rattle.gb_names.specs.declared.setting.Variables.TheVariants.{Absent, Own, Sides}
-use Rattle.gb_names.specs.Environment.{Name, Environment, may_read, on_side, sides_of}
+use Rattle.gb_names.specs.Environment.{Environment, may_read, on_side, sides_of}
+use Rattle.gb_names.specs.Modules.{whole_module}
 use Rattle.gb_names.specs.Names.{ModuleVariable, global_variable, has_memories, has_own, memory_at, side_of}
 use Rattle.gb_names.specs.Wanted.{truth}
-use Rattle.gb_elab.specs.Globs.{Seen, agreement, agreement_on, agreements, agrees, behind_if, same_globals, global_named, memory_behind, memory_read, module_and_memory, module_at, true_if_none, whole_equation, whole_read, with_agreement}
+use Rattle.gb_elab.specs.Globs.{Seen, agreement, agreement_on, agreements, agrees, behind_if, same_globals, global_named, memory_behind, memory_read, module_and_memory, true_if_none, whole_equation, whole_read, with_agreement}
 use Rattle.gb_elab_laws.specs.Fitting.{reads_globals, AreReadable, IsFitting, IsGiven}
 use Rattle.gb_elab_laws.proofs.Given.{given_bind, given_is, if_allowed, none_some, same_some}
 use Rattle.gb_elab_laws.proofs.Leaves.{HasMemory, Stands, in_stands, own_memory, side_there, standing_typed, truth_typed}
@@ -80,18 +83,18 @@ module _ {globs : Bool} (c : Context) (at : Environment) (vs : List Binding) (fi
     all_agree_typed None h = truth_typed c at vs fit true
     all_agree_typed (Some f) h = h
 
-    agreement_typed : (n : Name) (p : Place) (u : Term) → agreement at.declared n s r p ≡ given u → IsTruth u
-    agreement_typed n p u e = step (footprint at.declared n) e
+    agreement_typed : (m : Mexp) (p : Place) (u : Term) → agreement at.declared m s r p ≡ given u → IsTruth u
+    agreement_typed m p u e = step (footprint at.declared m) e
       where
         step : (o : Option (List Var)) → agreement_on at.declared s r p o ≡ given u → IsTruth u
         step None e = cc
         step (Some xs) e = subst IsTruth (given_is _ u e) (all_agree_typed (agreements at.declared s r None xs) (agreements_typed None xs tt))
 
   -- `={glob M}`
-  pub same_globals_typed : Has side.Left × Has side.Right → (m : Node) (u : Term) → same_globals at vs m ≡ given u → IsTruth u
-  same_globals_typed h m u e =
-      let n = given_bind (module_at at vs m) (λ n. agreement at.declared n side.Left side.Right (place_of m)) u e in
-      agreement_typed side.Left side.Right h.0 h.1 n.0 (place_of m) u n.2
+  pub same_globals_typed : Has side.Left × Has side.Right → (t : Node) (u : Term) → same_globals at vs t ≡ given u → IsTruth u
+  same_globals_typed h t u e =
+      let m = given_bind (whole_module at vs t) (λ m. agreement at.declared m side.Left side.Right (place_of t)) u e in
+      agreement_typed side.Left side.Right h.0 h.1 m.0 (place_of t) u m.2
 
   -- the memory in which all globals are read
   behind_has : has_memories at.language ≡ true → (k : Head) (n : Node) (p : Place) (s : Side) → memory_behind k n at vs p ≡ given s → Has s
@@ -115,12 +118,12 @@ module _ {globs : Bool} (c : Context) (at : Environment) (vs : List Binding) (fi
       subst Has (given_is side.Own s k.1) (own_memory globs (reads_globals at.language) c at.variables k.0 fit.variables)
   memory_has may (Some n) p s e = behind_has may (head_of n) n p s e
 
-  read_has : (w : Seen) (r : Name × Side) → whole_read at vs w ≡ given r → Has r.1
+  read_has : (w : Seen) (r : Mexp × Side) → whole_read at vs w ≡ given r → Has r.1
   read_has w r e =
       let k = if_allowed (has_memories at.language) (module_and_memory at vs w) Argument w.2 r e in
       let s = given_bind (memory_read at vs w.1 w.2) _ r k.1 in
-      let n = given_bind (module_at at vs w.0) (λ n. given (n, s.0)) r s.2 in
-      subst (λ (z : Name × Side). Has z.1) (given_is (n.0, s.0) r n.2) (memory_has k.0 w.1 w.2 s.0 s.1)
+      let m = given_bind (whole_module at vs w.0) (λ m. given (m, s.0)) r s.2 in
+      subst (λ (z : Mexp × Side). Has z.1) (given_is (m.0, s.0) r m.2) (memory_has k.0 w.1 w.2 s.0 s.1)
 
   -- an equation in two memories
   pub whole_equation_typed : (w : Option Ty) (p : Place) (a b : Seen) (u : Term) → whole_equation at vs w p a b ≡ given u → IsGiven globs c at.language w u
@@ -128,5 +131,5 @@ module _ {globs : Bool} (c : Context) (at : Environment) (vs : List Binding) (fi
       let q = given_bind (truth w p) _ u e in
       let l = given_bind (whole_read at vs a) _ u q.2 in
       let r = given_bind (whole_read at vs b) _ u l.2 in
-      let k = if_allowed (bytes_eq l.0.0 r.0.0) (agreement at.declared l.0.0 l.0.1 r.0.1 p) Argument a.2 u r.2 in
+      let k = if_allowed (mexp_eq l.0.0 r.0.0) (agreement at.declared l.0.0 l.0.1 r.0.1 p) Argument a.2 u r.2 in
       truth_given c at.language w p q.0 u q.1 (agreement_typed l.0.1 r.0.1 (read_has a l.0 l.1) (read_has b r.0 r.1) l.0.0 p u k.1)

@@ -28,6 +28,7 @@ pub mod Parameters
 pub mod Recalled
 pub mod ModuleNames
 pub mod Fits
+pub mod InnerModules
 pub mod Occurring
 pub mod Ends
 pub mod Sampled
@@ -35,9 +36,7 @@ pub mod Anew
 pub mod Cuts
 pub mod Spoken
 pub mod Around
-pub mod Callees
 pub mod Called
-pub mod StatedCalls
 pub mod Stated
 pub mod Widened
 pub mod Further
@@ -45,9 +44,9 @@ pub mod AboutNamed
 pub mod Used
 mod Brought
 pub mod Programs
+pub mod Taken
 pub mod Made
 pub mod Members
-pub mod ModuleCalls
 pub mod Procedures
 pub mod Statements
 pub mod Scopes

@@ -9,11 +9,8 @@ use Rattle.gb_core.specs.declared.ty.Ty.{Ty}
 use Rattle.gb_terms.specs.declared.decl.Module.{Module}
 use Rattle.gb_terms.specs.declared.decl.Proc.{Proc}
 use Rattle.gb_terms.specs.declared.decl.TypedName.{TypedName}
-use Rattle.gb_terms.specs.declared.module.Mexp.{Mexp}
-use Rattle.gb_terms.specs.declared.module.Mexp.TheVariants.{Name as named, Apply'}
-use Rattle.gb_terms.specs.declared.module.ProcRef.{ProcRef}
 use Rattle.gb_goal.specs.Answers.Answer.{given}
-use Rattle.gb_goal.specs.Scope.{Declarations, as_module, entry_of, module_of, proc_at, proc_in, proc_of, procedure_of}
+use Rattle.gb_goal.specs.Scope.{Declarations, as_module, entry_of, module_of}
 use Rattle.gb_script.specs.declared.head.Head.{Head}
 use Rattle.gb_script.specs.declared.head.Head.TheVariants as head
 use Rattle.gb_script.specs.declared.tree.Node.{Node}
@@ -29,21 +26,21 @@ use Rattle.gb_elab_prog.specs.Modules.{empty_module, member_names, module_given,
 use Rattle.gb_elab_prog.specs.Procedures.{procedure_by}
 use Rattle.gb_holds.specs.Declared.{declared as declarations}
 use Rattle.gb_holds.specs.Modules.{Procedures}
-use Rattle.gb_typing.specs.Context.{Context, procedure}
-use Rattle.gb_typing.specs.Modules as interface
-use Rattle.gb_typing.specs.Modules.{ProcedureType}
+use Rattle.gb_typing.specs.Context.{Context}
+use Rattle.gb_typing.specs.Modules.{ProcedureType, Interface}
 use Rattle.gb_typing.specs.Programs.{HaveVariableTypes, type_of_procedure}
-use Rattle.gb_typing.specs.Scopes.{procedure_types, interface_with, in_module, with_params, context_of, is_declared, AreProcedures, AreTaken, HaveOwnNames, IsModule, IsTypedScope}
+use Rattle.gb_typing.specs.Scopes.{procedure_types, interface_with, in_module, context_of, is_declared, AreProcedures, AreTaken, HaveOwnNames, IsModule, IsTypedScope}
 use Rattle.gb_typing.specs.Modules.{with_interface}
 use Rattle.gb_typing.proofs.Globals.{name_test, or_false}
 use Rattle.gb_typing.specs.Naming.{NoName}
 use Rattle.gb_models.specs.Speaking.{ProceduresSpeak}
-use Rattle.gb_elab_laws.specs.Fitting.{AreDeclared, HasGlobals, IsTypeOf}
-use Rattle.gb_elab_laws.proofs.Given.{given_bind, given_is, if_refused, none_some}
+use Rattle.gb_elab_laws.proofs.Given.{given_bind, given_is, if_absent, if_refused, none_of, none_some}
 use Rattle.gb_elab_laws.proofs.Declared.{declared_in}
-use Rattle.gb_elab_laws.proofs.Fits.{declared_globals, declared_procedure, typed_among}
+use Rattle.gb_elab_laws.proofs.Fits.{declared_globals}
 use Rattle.gb_elab_laws.proofs.Found.{found}
+use Rattle.gb_elab_laws.proofs.InnerModules.{inside_typed, procedures_variable}
 use Rattle.gb_elab_laws.proofs.Made.{module_made}
+use Rattle.gb_elab_laws.proofs.Taken.{empty_bare, parameters_bare, parameters_taken}
 use Rattle.gb_elab_laws.proofs.Programs.{have_both, procedure_typed}
 use Rattle.gb_elab_laws.proofs.Around.{IsAround}
 use Rattle.gb_elab_laws.proofs.Quantified.{variables_with}
@@ -51,11 +48,6 @@ use Rattle.gb_elab_laws.proofs.Spoken.{procedures_behind}
 use Rattle.gb_elab_laws.proofs.Types.{spelled_typed}
 
 -- Globals under names of their own.
-
--- what isn't there under a test
-pub if_absent : {A : Type 0} (b : Bool) (x : A) (o : Option A) → (if b then Some x else o) ≡ None → (b ≡ false) × (o ≡ None)
-if_absent true x o e = none_some x (sym e)
-if_absent false x o e = (refl, e)
 
 -- what is found in front stays
 front_local : (ls ms : List TypedName) (x : Name) (t : Ty) → local_type ls x ≡ Some t → local_type (ls ++ ms) x ≡ Some t
@@ -176,21 +168,27 @@ record IsPart (c : Context) (m k : Module) : Type 0 where
   procs : AreProcedures c m [] k.procs
   speaks : ProceduresSpeak NoName k.procs
 
-no_part : (c : Context) (m : Module) (n : Name) → IsPart c m (empty_module n)
-no_part c m n = record { types = tt; names = tt; procs = tt; speaks = tt }
+no_part : (c : Context) (m k : Module) → k.globals ≡ [] → k.procs ≡ [] → IsPart c m k
+no_part c m k g p = record {
+  types = subst HaveVariableTypes (sym g) tt;
+  names = subst HaveOwnNames (sym g) tt;
+  procs = subst (AreProcedures c m []) (sym p) tt;
+  speaks = subst (ProceduresSpeak NoName) (sym p) tt;
+}
 
-made : (c : Context) (m : Module) → [] ≡ m.params → IsPart c m m → IsModule c m.name m
-made c m e part = record {
+made : (c : Context) (m : Module) → AreTaken (with_interface c.modules m.name (Some (interface_with c.modules.types m.params []))) m.params → IsPart c m m → IsModule c m.name m
+made c m taken part = record {
   name = refl;
-  params = subst (λ ps. AreTaken (with_interface c.modules m.name (Some (interface_with c.modules.types ps []))) ps) e tt;
+  params = taken;
   globals = part.types;
   names = part.names;
   procs = part.procs;
 }
 
-module _ (ds : Declarations) (c : Context) (m : Module) (new : entry_of ds m.name ≡ None) (names : AreDeclared c.operator ds)
-    (others : (n : Name) (k : Module) → module_of ds n ≡ Some k → HasGlobals c.global n k)
-    (callable : (f : ProcRef) (a : Proc) → procedure_of ds f ≡ Some a → IsTypeOf (procedure c f) a) (alone : [] ≡ m.params) where
+module _ (ds : Declarations) (scoped : IsTypedScope (declarations ds)) (m : Module) (new : entry_of ds m.name ≡ None) where
+  abbrev c : Context
+  c = context_of (declarations ds)
+
   -- the module isn't declared yet
   apart : (n : Name) (k : Module) → module_of ds n ≡ Some k → bytes_eq n m.name ≡ false
   apart n k e = step (bytes_eq n m.name) refl
@@ -199,44 +197,12 @@ module _ (ds : Declarations) (c : Context) (m : Module) (new : entry_of ds m.nam
       step true i = none_some k (sym (ap as_module (ap (entry_of ds) ((bytes_eq-Decides n m.name).0 i) ∙ new)) ∙ e)
       step false i = refl
 
-  -- the procedures of other modules stand as they do without the module
-  elsewhere : (ps : Procedures ProcedureType) (y n : Name) (a : Proc) → proc_at ds (named y) n ≡ Some a → IsTypeOf (procedure (in_module c m ps) (record { «module» = named y; name = n })) a
-  elsewhere ps y n a e = step (module_of ds y) refl e
-    where
-      step : (o : Option Module) → module_of ds y ≡ o → proc_in o n ≡ Some a → IsTypeOf (procedure (in_module c m ps) (record { «module» = named y; name = n })) a
-      step None i h = none_some a h
-      step (Some r) i h =
-          let i0 = Some (interface_with c.modules.types m.params ps) in
-          let same : (in_module c m ps).modules.interfaces y ≡ c.modules.interfaces y =
-          subst (λ qs. (with_params (with_interface c.modules m.name i0) qs).interfaces y ≡ c.modules.interfaces y) alone (ap (λ (b : Bool). if b then i0 else c.modules.interfaces y) (apart y r i)) in
-          subst (λ j. IsTypeOf (interface.procedure_of j n) a) (sym same) (callable (record { «module» = named y; name = n }) a e)
-
-  in_place : (ps : Procedures ProcedureType) (x : Mexp) (n : Name) (a : Proc) → proc_at ds x n ≡ Some a → IsTypeOf (procedure (in_module c m ps) (record { «module» = x; name = n })) a
-  in_place ps (named y) n a e = elsewhere ps y n a e
-  in_place ps (Apply' y k args) n a e = none_some a e
-
-  -- so do those of the module that are typed so far
-  own_interface : (ps : Procedures ProcedureType) → (in_module c m ps).modules.interfaces m.name ≡ Some (record { lacks = []; procedures = ps })
-  own_interface ps =
-      subst (λ qs. (with_params (with_interface c.modules m.name (Some (interface_with c.modules.types qs ps))) qs).interfaces m.name ≡ Some (record { lacks = []; procedures = ps })) alone
-      (ap (λ (b : Bool). if b then Some (interface_with c.modules.types [] ps) else c.modules.interfaces m.name) ((bytes_eq-Decides m.name m.name).1 refl))
-
-  in_own : (k : Module) → IsFront k m → IsPart c m k → (n : Name) (a : Proc) → proc_of k.procs n ≡ Some a →
-      IsTypeOf (procedure (in_module c m (procedure_types k.procs)) (record { «module» = named k.name; name = n })) a
-  in_own k f part n a e =
-      let t = typed_among c m [] k.procs part.procs n a e in
-      let same = ap (in_module c m (procedure_types k.procs)).modules.interfaces f.name ∙ own_interface (procedure_types k.procs) in
-      record {
-        there = ap (λ j. interface.procedure_of j n) same ∙ t.2;
-        params = t.0;
-        result = t.1;
-      }
-
+  -- what stands around the next member
   around : (k : Module) → IsFront k m → IsPart c m k → IsAround ds (in_module c m (procedure_types k.procs)) k
   around k f part = record {
-    names = names;
+    names = declared_in ds scoped;
     others = λ n r e x v g.
-        let s = others n r e x v g in (ap (λ (b : Bool). if b then local_type m.globals v.name else c.global n v.name) (apart n r e) ∙ s.0, s.1);
+        let s = declared_globals ds scoped n r e x v g in (ap (λ (b : Bool). if b then local_type m.globals v.name else c.global n v.name) (apart n r e) ∙ s.0, s.1);
     own = λ x v g.
         let s = found k.globals x v g in
         let there : local_type m.globals v.name ≡ Some v.ty =
@@ -244,14 +210,14 @@ module _ (ds : Declarations) (c : Context) (m : Module) (new : entry_of ds m.nam
           ap (λ (b : Bool). if b then local_type m.globals v.name else c.global k.name v.name) ((bytes_eq-Decides k.name m.name).1 f.name) ∙ there,
           s.finite_with false (variables_with false k.globals part.types),
         );
-    procedures = λ g a e. in_place (procedure_types k.procs) g.«module» g.name a e;
-    own_procedures = in_own k f part;
+    procedures = inside_typed ds scoped m k f.name f.params (procedures_variable c m [] k.procs part.procs);
   }
 
   lines_part : (k n : Module) (xs : List Node) (t : Node) → with_globals ds k xs t ≡ given n → IsPart c m k → IsPart c m n
   lines_part k n xs t e part =
       let o = given_bind (taken (member_names k) xs) _ n e in
       let u = given_bind (spelled_as.type_of ds t) (λ u. given (record k { globals = k.globals ++ of_type xs u })) n o.2 in
+      let names = declared_in ds scoped in
       subst (IsPart c m) (given_is _ n u.2) (record {
         types = have_both k.globals (of_type xs u.0) part.types (lines_variable xs u.0 (spelled_typed ds names.types t u.0 u.1));
         names = lines_own (member_names k) o.0 k.globals xs u.0 (covers_front k.globals (map (λ (p : Proc). p.name) k.procs)) part.names o.1;
@@ -285,10 +251,6 @@ module _ (ds : Declarations) (c : Context) (m : Module) (new : entry_of ds m.nam
 
 -- Modules under free names.
 
-pub none_of : {A : Type 0} (o : Option A) → is_some o ≡ false → o ≡ None
-none_of None e = refl
-none_of (Some x) e = cc
-
 pub unnamed : (ds : Declarations) (x : Node) (y : Unit {0}) → free ds x ≡ given y → entry_of ds (text_of x) ≡ None
 unnamed ds x y h = none_of _ (if_refused (is_some (entry_of ds (text_of x))) (DoubleName (text_of x)) (place_of x) (given tt) y h).0
 
@@ -313,13 +275,21 @@ module_new : (ds : Declarations) (t : Node) (m : Module) → module_given ds t �
 module_new ds t m h =
     let from = module_made ds t m h in
     let x = from.name in
-    let front = members_front ds (empty_module (text_of x)) m from.members from.made in (
+    let k = from.front in
+    let bare = parameters_bare ds (text_of x) (empty_module (text_of x)) k from.params (empty_bare (text_of x)) from.taken in
+    let front = members_front ds k m from.members from.made in
+    let name : text_of x ≡ m.name = sym bare.name ∙ front.name in (
       λ w.
           let part =
-          members_part ds (context_of (declarations ds)) m (subst (λ n. entry_of ds n ≡ None) front.name (unnamed ds x tt from.free)) (declared_in ds w) (declared_globals ds w)
-          (λ f a k. declared_procedure ds w f.«module» f.name a k) front.params (empty_module (text_of x)) from.members from.made (no_part _ _ _) in
-          (made (context_of (declarations ds)) m front.params part, part.speaks),
-      subst (λ n. is_declared (declarations ds) n ≡ false) front.name (free_is ds x tt from.free),
+          members_part ds w m (subst (λ n. entry_of ds n ≡ None) name (unnamed ds x tt from.free)) k from.members from.made
+          (no_part (context_of (declarations ds)) m k bare.globals bare.procs) in
+          let c = context_of (declarations ds) in
+          let inner : Option Interface = Some (interface_with c.modules.types m.params []) in
+          let taken = parameters_taken ds w (text_of x) inner (empty_module (text_of x)) k from.params refl tt from.taken in (
+            made c m (subst (AreTaken (with_interface c.modules m.name inner)) front.params (subst (λ n. AreTaken (with_interface c.modules n inner) k.params) name taken)) part,
+            part.speaks,
+          ),
+      subst (λ n. is_declared (declarations ds) n ≡ false) name (free_is ds x tt from.free),
     )
 
 pub module_typed : (ds : Declarations) → IsTypedScope (declarations ds) → (t : Node) (m : Module) → module_given ds t ≡ given m → IsModule (context_of (declarations ds)) m.name m

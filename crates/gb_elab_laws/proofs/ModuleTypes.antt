@@ -6,6 +6,7 @@ use Rattle.gb_core.specs.declared.refusal.Why.TheVariants.{DoubleName, UnknownNa
 use Rattle.gb_terms.specs.declared.decl.Param.{Param}
 use Rattle.gb_goal.specs.Answers.{given_or}
 use Rattle.gb_goal.specs.Answers.Answer.{given}
+use Rattle.gb_goal.specs.Interfaces.{params_in, signatures_of}
 use Rattle.gb_goal.specs.Scope.{Declarations, module_of, module_type_of}
 use Rattle.gb_goal.specs.declared.module_type.MayCall.{MayCall}
 use Rattle.gb_goal.specs.declared.module_type.MayCall.TheVariants.{Every, Those}
@@ -20,45 +21,28 @@ use Rattle.gb_script.specs.Tree.{head_of, text_of, parts_of, place_of}
 use Rattle.gb_meaning.specs.Names.{Name}
 use Rattle.gb_laws.specs.Finite.{IsVariableType}
 use Rattle.gb_holds.specs.Declared.{declared, signature_in}
+use Rattle.gb_mods.specs.Reach.{signature_of}
 use Rattle.gb_names.specs.Names.{no_declared}
 use Rattle.gb_typing.specs.Formulas.{IsKnown, oracle_in}
-use Rattle.gb_typing.specs.Modules.{Modules, functor_type, of_functor_type, params_in, signatures_of}
+use Rattle.gb_typing.specs.Modules.{Modules}
 use Rattle.gb_typing.specs.Programs.{HaveVariableTypes}
 use Rattle.gb_typing.specs.Scopes.{context_of, is_declared, with_param, AreParams, AreOracles, AreSignatures, IsModuleType, IsTypedScope}
 use Rattle.gb_typing.proofs.Globals.{name_test, or_false}
 use Rattle.gb_elab_stmt.specs.Targets.{spelled_by}
-use Rattle.gb_elab_prog.specs.Bound.{apart}
+use Rattle.gb_elab_prog.specs.Bound.{apart, parameter_name}
 use Rattle.gb_elab_prog.specs.Fresh.{free}
-use Rattle.gb_elab_prog.specs.ModuleTypes as spelled
-use Rattle.gb_elab_prog.specs.ModuleTypes.{may_call, module_type_at, module_type_entries, oracle, oracles, parameter, parameter_name, parameters, signature, signature_of, signatures, signatures_in, signed, unsigned, without_parameters}
+use Rattle.gb_elab_prog.specs.ModuleTypes.{may_call, module_type_at, module_type_entries, oracle, oracles, param, parameter, parameters, signature, signatures, signatures_named, signed, unsigned, without_parameters}
 use Rattle.gb_elab_prog.specs.Procedures.{formals, result_type}
 use Rattle.gb_elab_prog.specs.Types.{only}
 use Rattle.gb_elab_laws.specs.Fitting.{AreTypes}
 use Rattle.gb_elab_laws.proofs.Declared.{declared_in}
-use Rattle.gb_elab_laws.proofs.Given.{given_bind, given_is, if_refused, none_some, same_some, some_given}
-use Rattle.gb_elab_laws.proofs.Members.{free_is, if_absent, none_of}
+use Rattle.gb_elab_laws.proofs.Given.{given_bind, given_is, if_absent, if_refused, none_of, none_some, same_some, some_given}
+use Rattle.gb_elab_laws.proofs.Members.{free_is}
 use Rattle.gb_elab_laws.proofs.ModuleNames.{no_module, type_known}
 use Rattle.gb_elab_laws.proofs.Programs.{formals_typed, result_typed}
+use Rattle.gb_elab_laws.proofs.Taken.{with_all, types_stay, still_free}
 
 -- Parameters.
-
--- the modules, and those of parameters
-abbrev with_all : Modules → List Param → Modules
-with_all ms [] = ms
-with_all ms (p ∷ ps) = with_all (with_param ms p) ps
-
--- module types stay
-types_stay : (ms : Modules) (ps : List Param) (n : Name) → (with_all ms ps).types n ≡ ms.types n
-types_stay ms [] n = refl
-types_stay ms (p ∷ ps) n = types_stay (with_param ms p) ps n
-
--- a name that no parameter has stays free
-still_free : (ms : Modules) (ps : List Param) (n : Name) → ms.interfaces n ≡ None → list_any (λ q. bytes_eq q.name n) ps ≡ false → (with_all ms ps).interfaces n ≡ None
-still_free ms [] n e f = e
-still_free ms (p ∷ ps) n e f =
-    let o = or_false (bytes_eq p.name n) (list_any (λ (q : Param). bytes_eq q.name n) ps) f in
-    still_free (with_param ms p) ps n
-    (ap (λ (b : Bool). if b then Some (of_functor_type (functor_type ms.types (ms.types p.ty))) else ms.interfaces n) (name_test n p.name ∙ o.0) ∙ e) o.1
 
 -- a module type without parameters, and a name under which no module is known
 abbrev IsParam : Modules → Param → Type 0
@@ -101,11 +85,6 @@ signature_is [] n = refl
 signature_is (s ∷ ss) n =
     ap (λ (b : Bool). if b then Some s else signature_of ss n) (name_test s.name n) ∙ ap (λ (o : Option Signature). if bytes_eq n s.name then Some s else o) (signature_is ss n)
 
--- those of a module type
-signatures_are : (o : Option ModuleType) → signatures_of o ≡ signatures_in o
-signatures_are None = refl
-signatures_are (Some t) = refl
-
 module _ (ds : Declarations) (scoped : IsTypedScope (declared ds)) where
   abbrev here : Modules
   here = (context_of (declared ds)).modules
@@ -115,7 +94,7 @@ module _ (ds : Declarations) (scoped : IsTypedScope (declared ds)) where
 
   parameter_typed : (qs rs : List Param) (h : Head) (xs : List Node) (p : Place) → AreParams here qs → parameter ds qs h xs p ≡ given rs → AreParams here rs
   parameter_typed qs rs head.ModuleParameter (x ∷ t ∷ []) p w e =
-      let o = given_bind (parameter_name ds qs x) _ rs e in
+      let o = given_bind (parameter_name ds None qs x) _ rs e in
       let u = given_bind (module_type_at ds t) _ rs o.2 in
       let k = given_bind (without_parameters u.0.params (place_of t)) _ rs u.2 in
       let own = if_refused (list_any (λ (q : Param). bytes_eq q.name (text_of x)) qs) (DoubleName (text_of x)) (place_of x) (apart ds x) o.0 o.1 in
@@ -124,7 +103,7 @@ module _ (ds : Declarations) (scoped : IsTypedScope (declared ds)) where
       types_stay here qs (spelled_by t) ∙ type_known ds scoped (spelled_by t)
       ∙ some_given (module_type_of ds (spelled_by t)) (no_declared None ds (spelled_by t)) (place_of t) u.0 u.1 in
       let typed = subst (λ (z : Option ModuleType). IsKnown z × (params_in z ≡ [])) (sym there) (tt, none_lacking u.0.params (place_of t) k.0 k.1) in
-      let q : Param = record { name = text_of x; ty = spelled_by t } in
+      let q : Param = param x t in
       subst (AreParams here) (given_is (qs ++ q ∷ []) rs k.2)
       (params_behind here qs q w (typed.0, typed.1, still_free here qs (text_of x) (no_module ds scoped (text_of x) (none_of (module_of ds (text_of x)) new.0)) own.0))
   parameter_typed qs rs _ _ p w e = cc
@@ -141,23 +120,23 @@ module _ (ds : Declarations) (scoped : IsTypedScope (declared ds)) where
     oracle_by q ps x f b = if b then signature_in (signatures_of (here.types q.ty)) f else oracle_in here ps x f
 
     -- the procedures of a parameter are those of its module type
-    among_is : (ps : List Param) (x : Name) (ss : List Signature) → spelled.signatures_of ds ps x ≡ Some ss → (f : Name) → oracle_in here ps x f ≡ signature_in ss f
+    among_is : (ps : List Param) (x : Name) (ss : List Signature) → signatures_named ds ps x ≡ Some ss → (f : Name) → oracle_in here ps x f ≡ signature_in ss f
     among_is [] x ss e f = none_some ss e
     among_is (q ∷ ps) x ss e f = step (bytes_eq q.name x) (name_test x q.name) (λ e. among_is ps x ss e f) e
       where
-        step : (b : Bool) → bytes_eq x q.name ≡ b → (spelled.signatures_of ds ps x ≡ Some ss → oracle_in here ps x f ≡ signature_in ss f) →
-            (if b then Some (signatures_in (module_type_of ds q.ty)) else spelled.signatures_of ds ps x) ≡ Some ss → oracle_by q ps x f (bytes_eq x q.name) ≡ signature_in ss f
+        step : (b : Bool) → bytes_eq x q.name ≡ b → (signatures_named ds ps x ≡ Some ss → oracle_in here ps x f ≡ signature_in ss f) →
+            (if b then Some (signatures_of (module_type_of ds q.ty)) else signatures_named ds ps x) ≡ Some ss → oracle_by q ps x f (bytes_eq x q.name) ≡ signature_in ss f
         step true i rest e =
             ap (oracle_by q ps x f) i
-            ∙ ap (λ z. signature_in z f) (ap signatures_of (type_known ds scoped q.ty) ∙ signatures_are (module_type_of ds q.ty) ∙ same_some (signatures_in (module_type_of ds q.ty)) ss e)
+            ∙ ap (λ z. signature_in z f) (ap signatures_of (type_known ds scoped q.ty) ∙ same_some (signatures_of (module_type_of ds q.ty)) ss e)
         step false i rest e = ap (oracle_by q ps x f) i ∙ rest e
 
     oracle_typed : (h : Head) (xs : List Node) (p : Place) (o : Oracle) → oracle ds qs h xs p ≡ given o → IsKnown (oracle_in here qs o.parameter o.name)
     oracle_typed head.Oracle (x ∷ f ∷ []) p o e =
-        let a = given_bind (given_or (spelled.signatures_of ds qs (text_of x)) (UnknownName (text_of x)) (place_of x)) _ o e in
+        let a = given_bind (given_or (signatures_named ds qs (text_of x)) (UnknownName (text_of x)) (place_of x)) _ o e in
         let b = given_bind (given_or (signature_of a.0 (text_of f)) (UnknownName (text_of f)) (place_of f)) _ o a.2 in
         let there : oracle_in here qs (text_of x) (text_of f) ≡ Some b.0 =
-        among_is qs (text_of x) a.0 (some_given (spelled.signatures_of ds qs (text_of x)) (UnknownName (text_of x)) (place_of x) a.0 a.1) (text_of f)
+        among_is qs (text_of x) a.0 (some_given (signatures_named ds qs (text_of x)) (UnknownName (text_of x)) (place_of x) a.0 a.1) (text_of f)
         ∙ sym (signature_is a.0 (text_of f)) ∙ some_given (signature_of a.0 (text_of f)) (UnknownName (text_of f)) (place_of f) b.0 b.1 in
         subst (λ (z : Oracle). IsKnown (oracle_in here qs z.parameter z.name)) (given_is (record { parameter = text_of x; name = text_of f }) o b.2) (subst IsKnown (sym there) tt)
     oracle_typed _ _ p o e = cc

@@ -1,9 +1,8 @@
--- Judgments of one declared procedure are typed.
+-- Judgments of one procedure are typed.
 use Rattle.std.proofs.lemmas.Bool.{false≢true}
 use Rattle.std.proofs.Common.{◌≡◌, pos, true, List, [], ◌∷◌, Some, None, refl, sym, ◌∙◌, subst, Bool}
 use Rattle.gb_core.specs.declared.place.Place.{Place}
 use Rattle.gb_core.specs.declared.ty.Ty.TheVariants as ty
-use Rattle.gb_terms.specs.declared.decl.Proc.{Proc}
 use Rattle.gb_terms.specs.declared.decl.TypedName.{TypedName}
 use Rattle.gb_names.specs.declared.bindings.Binding.{Binding}
 use Rattle.gb_terms.specs.declared.module.ProcRef.{ProcRef}
@@ -14,7 +13,7 @@ use Rattle.gb_terms.specs.declared.term.Term.{Term}
 use Rattle.gb_terms.specs.declared.term.Head.TheVariants.{Hoare, Phoare, Whole, Proc as procedure_subject}
 use Rattle.gb_terms.specs.Make.{node, truth_literal}
 use Rattle.gb_goal.specs.Answers.Answer.{given}
-use Rattle.gb_goal.specs.Scope.{procedure_of}
+use Rattle.gb_goal.specs.Interfaces.{ProcedureType, procedure_type}
 use Rattle.gb_script.specs.declared.tree.Node.{Node}
 use Rattle.gb_names.specs.Allowed.{has_judgments}
 use Rattle.gb_names.specs.declared.setting.Language.TheVariants.{Formula}
@@ -27,7 +26,7 @@ use Rattle.gb_typing.specs.Typing.{IsThere, before, after}
 use Rattle.gb_typing.proofs.Made.{made_node}
 use Rattle.gb_elab_laws.specs.Fitting.{AreIn, IsTypeOf, IsFitting, IsGiven}
 use Rattle.gb_elab_laws.proofs.Given.{given_bind, given_is}
-use Rattle.gb_elab_laws.proofs.Judged.{judging, one_is, params_in, result_in}
+use Rattle.gb_elab_laws.proofs.Judged.{judging, known_there, one_is, params_in, result_in}
 use Rattle.gb_elab_laws.proofs.Leaves.{truth_typed}
 use Rattle.gb_elab_laws.proofs.Remembered.{remembering}
 use Rattle.gb_elab_laws.proofs.Typed.{apart_node, Typed, given_from, leaf, operated}
@@ -55,6 +54,7 @@ module _ {globs : Bool} (c : Context) (at : Environment) (vs : List Binding) (fi
     declared = fit.declared;
     around = tt;
     globals = λ e. fit.globals (judging at.language judges);
+    outside = λ e. refl;
     procedures = λ e. fit.procedures judges;
     memories = λ e. fit.memories (remembering at.language judges);
     locals = λ e. fit.locals (remembering at.language judges);
@@ -71,6 +71,7 @@ module _ {globs : Bool} (c : Context) (at : Environment) (vs : List Binding) (fi
     declared = fit.declared;
     around = tt;
     globals = λ e. fit.globals (judging at.language judges);
+    outside = λ e. refl;
     procedures = λ e. fit.procedures judges;
     memories = λ e. fit.memories (remembering at.language judges);
     locals = λ e. fit.locals (remembering at.language judges);
@@ -97,9 +98,9 @@ module _ {globs : Bool} (c : Context) (at : Environment) (vs : List Binding) (fi
     plain = λ e. absurd (false≢true (sym e ∙ judges));
   }
 
-  module _ (f : ProcRef) (a : Proc) (e : procedure_of at.declared f ≡ Some a) where
+  module _ (f : ProcRef) (a : ProcedureType) (e : procedure_type at.declared at.inside f ≡ Some a) where
     known : IsTypeOf (procedure c f) a
-    known = fit.procedures judges f a e
+    known = known_there c at vs fit judges f a e
 
     pub is_there : IsThere (procedure c f)
     is_there = subst IsThere (sym known.there) tt

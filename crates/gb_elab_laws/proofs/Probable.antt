@@ -1,25 +1,18 @@
 -- Probabilities are typed.
-use Rattle.std.proofs.Common.{◌≡◌, ℕ, suc, Bool, true, false, List, [], ◌∷◌, ◌++◌, map, length, Option, Some, None, is_some, refl, ap, sym, ◌∙◌, subst}
+use Rattle.std.proofs.Common.{◌≡◌, Bool, true, false, List, [], ◌∷◌, ◌++◌, map, Some, refl, sym, ◌∙◌, subst}
 use Rattle.std.proofs.lemmas.Bool.{false≢true}
-use Rattle.gb_core.specs.declared.place.Place.{Place}
-use Rattle.gb_core.specs.declared.refusal.Why.TheVariants.{Argument}
 use Rattle.gb_core.specs.declared.ty.Ty.TheVariants as ty
-use Rattle.gb_terms.specs.declared.decl.Proc.{Proc}
 use Rattle.gb_terms.specs.declared.decl.TypedName.{TypedName}
 use Rattle.gb_terms.specs.declared.module.ProcRef.{ProcRef}
 use Rattle.gb_terms.specs.declared.op.Side.{Side}
 use Rattle.gb_terms.specs.declared.op.Side.TheVariants as side
 use Rattle.gb_terms.specs.declared.term.Term.{Term}
 use Rattle.gb_terms.specs.declared.term.Head.TheVariants.{Pr}
-use Rattle.gb_script.specs.declared.head.Head.{Head}
-use Rattle.gb_script.specs.declared.head.Head.TheVariants as head
-use Rattle.gb_script.specs.declared.tree.Node.{Node}
-use Rattle.gb_goal.specs.Answers.Answer.{given}
-use Rattle.gb_goal.specs.Scope.{procedure_of}
+use Rattle.gb_goal.specs.Interfaces.{ProcedureType, procedure_type}
 use Rattle.gb_typing.specs.Changes.{Made}
-use Rattle.gb_typing.specs.Context.{Context, frame_of, procedure, with_own}
+use Rattle.gb_typing.specs.Context.{Context, procedure, with_own}
 use Rattle.std.specs.Option.{option_map}
-use Rattle.gb_typing.specs.Typing.{IsFrame, IsThere, after}
+use Rattle.gb_typing.specs.Typing.{IsThere, after}
 use Rattle.gb_typing.proofs.Made.{EachMade, made_node}
 use Rattle.gb_laws.specs.Typing.{IsProbability}
 use Rattle.gb_meaning.specs.Trees.{row}
@@ -28,18 +21,12 @@ use Rattle.gb_typing.specs.Naming.{NoName, TermNames, TermsName}
 use Rattle.gb_names.specs.declared.setting.Language.TheVariants.{Formula}
 use Rattle.gb_names.specs.Allowed.{has_judgments}
 use Rattle.gb_names.specs.Environment.{Name, Environment}
-use Rattle.gb_names.specs.Judgments.{Named, named_procedure}
 use Rattle.gb_names.specs.declared.bindings.Binding.{Binding}
-use Rattle.gb_elab.specs.Probability.{before_call, called, chance, words_of}
+use Rattle.gb_elab.specs.Probability.{before_call, chance}
 use Rattle.gb_elab_laws.specs.Fitting.{IsTypeOf, IsFitting, IsGiven}
-use Rattle.gb_elab_laws.proofs.Judged.{IsDeclared, judging, named_is}
+use Rattle.gb_elab_laws.proofs.Judged.{judging, known_there}
 use Rattle.gb_elab_laws.proofs.Remembered.{IsNamedMemory, remembering}
 use Rattle.gb_elab_laws.proofs.Typed.{Typed, apart_node}
-
--- the procedure that a call names is declared
-pub called_is : (at : Environment) (vs : List Binding) (k : Head) (ps : List Node) (p : Place) (n : Named) → called at vs k ps p ≡ given n → IsDeclared at n
-called_is at vs head.Call ps p n h = named_is at vs head.ProcedurePath (words_of ps) p n h
-called_is at vs _ ps p n h = cc
 
 -- arguments of the types of these parameters
 abbrev pub AreArguments : Bool → Context → List TypedName → List Term → Type 0
@@ -75,15 +62,16 @@ module _ {globs : Bool} (c : Context) (at : Environment) (vs : List Binding) (fi
     declared = fit.declared;
     around = tt;
     globals = λ e. fit.globals (judging at.language judges);
+    outside = λ e. refl;
     procedures = λ e. fit.procedures judges;
     memories = λ e. fit.memories (remembering at.language judges);
     locals = λ e. fit.locals (remembering at.language judges);
     frames = λ e. fit.frames (remembering at.language judges);
   }
 
-  module _ (f : ProcRef) (a : Proc) (e : procedure_of at.declared f ≡ Some a) where
+  module _ (f : ProcRef) (a : ProcedureType) (e : procedure_type at.declared at.inside f ≡ Some a) where
     known : IsTypeOf (procedure c f) a
-    known = fit.procedures judges f a e
+    known = known_there c at vs fit judges f a e
 
     pub chance_typed : (s : Side) → IsNamedMemory c s → (ts : List Term) → AreArguments globs c a.params ts → (b : Term) → IsGiven globs (with_own c (after (procedure c f))) Formula (Some ty.Bool) b →
         Typed globs c at.language ty.Real (chance f s ts b)

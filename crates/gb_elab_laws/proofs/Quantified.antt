@@ -115,6 +115,7 @@ module _ {globs : Bool} (at : Environment) where
     declared = fit.declared;
     around = fit.around;
     globals = fit.globals;
+    outside = fit.outside;
     procedures = fit.procedures;
     memories = fit.memories;
     locals = fit.locals;

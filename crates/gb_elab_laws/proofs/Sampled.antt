@@ -52,11 +52,12 @@ use Rattle.gb_names.specs.Environment.{Environment, of_function}
 use Rattle.gb_elab.specs.Forms.{function}
 use Rattle.gb_elab_mod.specs.Occurring.{occurring}
 use Rattle.gb_operators.specs.Literals.{place_inside}
-use Rattle.gb_elab_mod.specs.Steps.{acts, cut_of, last_sampled, functions, of_bodies_rule, on_all, one_type, plain_rule, conclusion_rule, conseq_rule, case_of_bodies, case_of_conclusion, formed, seq_rule, sided_case_rule, there_and_back, of_bodies, couplings, drawing_rule, coupling_rule, functions_of, typed_rule, step_given, asked_of, both_rule, chance_rule, judges_chance, witness_rule}
+use Rattle.gb_elab_mod.specs.OnPrograms.{acts, cut_of, last_sampled, functions, of_bodies_rule, on_all, one_type, plain_rule, conseq_rule, case_of_bodies, seq_rule, there_and_back, of_bodies, couplings, drawing_rule, coupling_rule, functions_of, both_rule, chance_rule, judges_chance}
+use Rattle.gb_elab_mod.specs.Steps.{conclusion_rule, case_of_conclusion, formed, sided_case_rule, typed_rule, step_given, asked_of, witness_rule}
 use Rattle.gb_elab_mod.specs.Multiples.{hypothesis_at, multiples, position}
 use Rattle.gb_elab_mod.specs.Uses.{all_hinted, defined_operator, hypothesis, used}
 use Rattle.gb_elab_mod.specs.Taken.{new_name}
-use Rattle.gb_elab_mod.specs.Steps as steps
+use Rattle.gb_elab_mod.specs.OnPrograms as steps
 use Rattle.gb_elab_prog.specs.Unbuilt.{absent}
 use Rattle.gb_elab_laws.specs.Fitting.{IsFitting, IsGiven}
 use Rattle.gb_relational.specs.Rows.{IsTypedRule}

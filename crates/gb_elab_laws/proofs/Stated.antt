@@ -117,7 +117,7 @@ module _ (ds : Declarations) (c : Context) (m : Module) (around : IsAround ds c 
   all_take : (ws : List Target) (t : Ty) → AreTargets ws → t ≡ type_of_all ws → Take (erased c) vs (variables_of ws) t
   all_take = program_around.all_take ds c m around vs typed
 
-  call_typed : (ws : List Target) → AreTargets ws → (x : Node) (ys es : List Node) (p : Place) (i : Instr) → call here ws x ys es p ≡ given i → IsMade i
+  call_typed : (ws : List Target) → AreTargets ws → (k : Head) (x : Node) (xs : List Node) (p : Place) (i : Instr) → call here ws k x xs p ≡ given i → IsMade i
   call_typed = of_calls.call_typed ds c m around vs typed
 
   sampling_typed : (x : Name) (ds : List Node) (p : Place) (i : Instr) → sampling here x ds p ≡ given i → IsMade i
@@ -165,8 +165,8 @@ module _ (ds : Declarations) (c : Context) (m : Module) (around : IsAround ds c 
 
   -- calls whose results variables take
   result_typed : (ws : List Target) → AreTargets ws → (k : Head) (xs : List Node) (p : Place) (i : Instr) → result_to here ws k xs p ≡ given i → IsMade i
-  result_typed ws w head.Call (x ∷ xs) p i h = call_typed ws w x (words xs) (written xs) p i h
-  result_typed ws w _ xs p i h = cc
+  result_typed ws w k (x ∷ xs) p i h = call_typed ws w k x xs p i h
+  result_typed ws w k [] p i h = cc
 
   called_typed : (ws : List Target) → AreTargets ws → (ks : List Node) (p : Place) (i : Instr) → called_to here ws ks p ≡ given i → IsMade i
   called_typed ws w (k ∷ []) p i h = result_typed ws w (head_of k) (parts_of k) (place_of k) i h
@@ -226,7 +226,8 @@ module _ (ds : Declarations) (c : Context) (m : Module) (around : IsAround ds c 
   instruction_typed head.Assign x xs p i h = assignment_typed (dotted (text_of x) (words xs)) (written xs) p i h
   instruction_typed head.Store x xs p i h = stored_typed (dotted (text_of x) (take (pred (pred (length xs))) xs)) (drop (pred (pred (length xs))) xs) p i h
   instruction_typed head.AssignCall x xs p i h = result_in_typed (dotted (text_of x) (words xs)) (written xs) p i h
-  instruction_typed head.Call x xs p i h = call_typed [] tt x (words xs) (written xs) p i h
+  instruction_typed head.Call x xs p i h = call_typed [] tt head.Call x xs p i h
+  instruction_typed head.FunctorCall x xs p i h = call_typed [] tt head.FunctorCall x xs p i h
   instruction_typed head.TupleStatement ts (w ∷ []) p i h = written_typed (parts_of ts) (head_of w) (parts_of w) p i h
   instruction_typed _ x xs p i h = cc
 

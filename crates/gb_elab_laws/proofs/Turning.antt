@@ -11,7 +11,7 @@ use Rattle.gb_steps.specs.declared.step.BodyRule.TheVariants as on_bodies
 use Rattle.gb_steps.specs.declared.step.Invariant.{Invariant}
 use Rattle.gb_steps.specs.declared.step.Rule.{Rule}
 use Rattle.gb_steps.specs.declared.step.Rule.TheVariants as rule
-use Rattle.gb_elab_mod.specs.Steps.{kept_by, said_of_bodies, while_rule}
+use Rattle.gb_elab_mod.specs.OnPrograms.{kept_by, said_of_bodies, while_rule}
 use Rattle.gb_elab_laws.proofs.Given.{given_bind, given_is}
 
 -- It is a step of `while`, or one that fits no goal.

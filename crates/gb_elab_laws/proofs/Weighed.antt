@@ -28,7 +28,7 @@ use Rattle.gb_names.specs.declared.names.Known.{Known}
 use Rattle.gb_names.specs.declared.names.Known.TheVariants as known
 use Rattle.gb_names.specs.Allowed.{distribution_here}
 use Rattle.gb_names.specs.Environment.{Name, Environment}
-use Rattle.gb_names.specs.Names.{constant_at, hidden, known_at, named}
+use Rattle.gb_names.specs.Names.{constant_at, covered, known_at, named}
 use Rattle.gb_names.specs.Wanted.{wanted}
 use Rattle.gb_operators.specs.Kinds.{outcome}
 use Rattle.gb_operators.specs.Operators.{part_wanted}
@@ -100,7 +100,7 @@ module _ {globs : Bool} (c : Context) (at : Environment) (vs : List Binding) (fi
           option_map_or given o (option_map_or (λ b. built_in_constant b p) (known_at at vs x) (no_constant at vs x p)) ≡ given k → IsConstant k
       step (Some y) i e =
           let names = fit.declared in
-          subst IsConstant (given_is y k e) (names.constants x y (if_none (hidden at vs x) (constant_named at.declared x) y i))
+          subst IsConstant (given_is y k e) (names.constants x y (if_none (covered at vs x) (constant_named at.declared x) y i))
       step None i e = by_name (known_at at vs x) e
 
   new_is : (t : Ty) (ps : List Pair) (x : Name) (p : Place) (k : Constant) → new_constant at vs t ps x p ≡ given k → (k.ty ≡ t) × IsConstant k

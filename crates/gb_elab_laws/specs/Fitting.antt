@@ -3,7 +3,6 @@ use Rattle.std.specs.Prelude.{◌≡◌, ◌<◌, ℕ, length, Bool, true, false
 use Rattle.gb_core.specs.declared.ty.Ty.{Ty}
 use Rattle.gb_core.specs.declared.ty.Ty.TheVariants as ty
 use Rattle.gb_terms.specs.declared.decl.Module.{Module}
-use Rattle.gb_terms.specs.declared.decl.Proc.{Proc}
 use Rattle.gb_terms.specs.declared.decl.TypedName.{TypedName}
 use Rattle.gb_terms.specs.declared.module.ProcRef.{ProcRef}
 use Rattle.gb_terms.specs.declared.op.Side.TheVariants as side
@@ -11,7 +10,8 @@ use Rattle.gb_terms.specs.declared.term.Term.{Term}
 use Rattle.gb_core.specs.declared.value.Value.TheVariants.{Num}
 use Rattle.gb_goal.specs.declared.scope.Constant.{Constant}
 use Rattle.gb_goal.specs.declared.scope.OperatorType.{OperatorType as DeclaredOperator}
-use Rattle.gb_goal.specs.Scope.{Declarations, constant_named, module_of, operator_named, procedure_of, type_named}
+use Rattle.gb_goal.specs.Interfaces.{procedure_type}
+use Rattle.gb_goal.specs.Scope.{Declarations, constant_named, module_of, operator_named, type_named}
 use Rattle.gb_meaning.specs.Names.{Name}
 use Rattle.gb_meaning.specs.Written.{type_of, local_type}
 use Rattle.gb_laws.specs.Plain.{IsPlain}
@@ -23,7 +23,7 @@ use Rattle.gb_laws.specs.Typing.{Binder, OperatorType, binder, IsBoundAt, IsLite
 use Rattle.gb_typing.specs.Modules.{ProcedureType}
 use Rattle.gb_typing.specs.Context.{Frame, Context, erased, frame_of, procedure, local_in}
 use Rattle.gb_typing.specs.Typing.{IsFrame, IsTyped}
-use Rattle.gb_typing.specs.Programs.{HaveVariableTypes, type_of_procedure}
+use Rattle.gb_typing.specs.Programs.{HaveVariableTypes}
 use Rattle.gb_typing.specs.Scopes.{AreMeasured}
 use Rattle.gb_names.specs.declared.bindings.Binding.{Binding}
 use Rattle.gb_names.specs.declared.bindings.Kind.{Kind}
@@ -86,9 +86,9 @@ AreReadable globs reads c Absent = Unit {0}
 AreReadable globs reads c (Own vs) = (reads ≡ true) × AreIn globs c.own vs
 AreReadable globs reads c (Sides ls rs) = (reads ≡ true) × AreIn globs c.left ls × AreIn globs c.right rs
 
--- the type of a declared procedure, whose parameters and result are of types of variables
-pub record IsTypeOf (t : Option ProcedureType) (f : Proc) : Type 0 where
-  pub there : t ≡ Some (type_of_procedure f)
+-- the type of a procedure, whose parameters and result are of types of variables
+pub record IsTypeOf (t : Option ProcedureType) (f : ProcedureType) : Type 0 where
+  pub there : t ≡ Some f
   pub params : HaveVariableTypes f.params
   pub result : IsVariableType f.result
 
@@ -124,9 +124,10 @@ HasGlobalsIf globals (Some m) = HasGlobals globals m.name m
 
 -- A context that fits an environment, under bound names: what the environment gives a name stands there, at types of values; what
 -- is bound, at types of forms; what is declared stands with its types, and so do the globals of the module around; where globals may
--- be read, those of each declared module do; where judgments may stand, each declared procedure does; and where named memories may be
--- read, each memory of the sequent, with the locals that the sequent reads in it, and each that is bound does. It is told whether
--- types of the globals of modules may stand.
+-- be read, those of each declared module do; where judgments may stand, which is outside of modules, each procedure that is known by
+-- declarations does, also one of a module with modules for its parameters; and where named memories may be read, each memory of the
+-- sequent, with the locals that the sequent reads in it, and each that is bound does. It is told whether types of the globals of modules
+-- may stand.
 pub record IsFitting (globs : Bool) (c : Context) (at : Environment) (vs : List Binding) : Type 0 where
   pub logical : (i : ℕ) → c.logical i ≡ item (map (λ x. x.ty) at.sequent.logical) i
   pub values : AllFiniteWith globs at.sequent.logical
@@ -135,7 +136,8 @@ pub record IsFitting (globs : Bool) (c : Context) (at : Environment) (vs : List 
   pub declared : AreDeclared c.operator at.declared
   pub around : HasGlobalsIf c.global at.inside
   pub globals : reads_globals at.language ≡ true → (n : Name) (m : Module) → module_of at.declared n ≡ Some m → HasGlobals c.global n m
-  pub procedures : has_judgments at.language ≡ true → (p : ProcRef) (f : Proc) → procedure_of at.declared p ≡ Some f → IsTypeOf (procedure c p) f
+  pub outside : has_judgments at.language ≡ true → at.inside ≡ None
+  pub procedures : has_judgments at.language ≡ true → (p : ProcRef) (f : ProcedureType) → procedure_type at.declared None p ≡ Some f → IsTypeOf (procedure c p) f
   pub memories : has_memories at.language ≡ true → (i : ℕ) → i < length at.sequent.memories → (i < length c.named) × IsFrame (frame_of c (side.Memory i))
   pub locals : has_memories at.language ≡ true → (i : ℕ) (x : Name) (t : Ty) → goal_read_type (side.Memory i) x at.sequent ≡ Some t →
       (local_in (frame_of c (side.Memory i)) x ≡ Some t) × IsFiniteWith globs t

@@ -1,4 +1,4 @@
-pub mod Calling
 pub mod Fitting
+pub mod Known
 pub mod Procedures
 pub mod Reading

@@ -15,7 +15,6 @@ ghost use Rattle.gb_meaning.specs.Written.{type_of};
 ghost use Rattle.gb_holds.specs.Declared.{concrete_module, declared};
 ghost use Rattle.gb_typing.specs.Naming.{NoName};
 ghost use Rattle.gb_models.specs.Speaking.{DeclarationSpeaks, ScopeSpeaks};
-ghost use Rattle.gb_elab_laws.specs.Calling.{EntriesCall, EntryCalls};
 ghost use Rattle.gb_elab_laws.specs.Procedures.{IsOfProcedures};
 ghost use Rattle.gb_holds.specs.Truth.{has_module};
 ghost use Rattle.gb_typing.specs.Sequents.{IsTypedSequent};
@@ -25,26 +24,23 @@ ghost use Rattle.gb_elab_mod.specs.Lemmas.{lemma_name, statement_given};
 ghost use Rattle.gb_elab_prog.specs.Modules.{module_given};
 
 /// A typed scope stays typed with what a command `type`, `op` or `module type` declares, none of which is a lemma. It speaks of no module's
-/// globals together, and declares no module.
+/// globals together.
 pub fn entries()
     ensures added { (ds : scope.Declarations) → IsTypedScope (declared ds) → (t : Node) (added : scope.Declarations) → entries_given ds t ≡ given added →
         IsTypedScope (declared (ds ++ added)) }
     ensures others { (ds : scope.Declarations) → (t : Node) (added : scope.Declarations) → entries_given ds t ≡ given added → ClaimNothing added }
     ensures speaks { (ds : scope.Declarations) → IsTypedScope (declared ds) → (t : Node) (added : scope.Declarations) → entries_given ds t ≡ given added →
         ScopeSpeaks NoName (declared added) }
-    ensures calls { (ds : scope.Declarations) → IsTypedScope (declared ds) → (t : Node) (added : scope.Declarations) → entries_given ds t ≡ given added →
-        EntriesCall (ds ++ added) added }
 {}
 
 /// What a module is typed to in a typed scope is a well-typed module under a free name, with which the scope stays typed.
-/// It speaks of no module's globals together, and calls declared procedures, by the names of their modules alone.
+/// It speaks of no module's globals together.
 pub fn modules()
     ensures typed { (ds : scope.Declarations) → IsTypedScope (declared ds) → (t : Node) (m : Module) → module_given ds t ≡ given m → IsModule (context_of (declared ds)) m.name m }
     ensures free { (ds : scope.Declarations) → (t : Node) (m : Module) → module_given ds t ≡ given m → is_declared (declared ds) m.name ≡ false }
     ensures speaks { (ds : scope.Declarations) → IsTypedScope (declared ds) → (t : Node) (m : Module) → module_given ds t ≡ given m → DeclarationSpeaks NoName (concrete_module m) }
     ensures added { (ds : scope.Declarations) → IsTypedScope (declared ds) → (t : Node) (m : Module) → module_given ds t ≡ given m →
         IsTypedScope (declared (ds ++ (m.name, entry.Module m) ∷ [])) }
-    ensures calls { (ds : scope.Declarations) → (t : Node) (m : Module) → module_given ds t ≡ given m → EntryCalls (ds ++ (m.name, entry.Module m) ∷ []) (entry.Module m) }
 {}
 
 /// In a typed scope, the goal that a lemma states is a typed goal, its conclusion is a truth in front of which no module is

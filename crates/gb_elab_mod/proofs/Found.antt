@@ -23,7 +23,8 @@ use Rattle.gb_terms.specs.declared.term.Head.TheVariants as head
 use Rattle.gb_terms.specs.declared.term.Head.TheViews.{the_lemmas, out-Head, roll-Head, roll-out-Head}
 use Rattle.gb_terms.specs.declared.term.Head.TheFolds.{map-Head, fold-Head, fold_out-Term, fold_out-Head}
 use Rattle.gb_terms.specs.Equal.{side_eq}
-use Rattle.gb_goal.specs.Scope.{Declarations, procedure_of}
+use Rattle.gb_goal.specs.Interfaces.{procedure_type}
+use Rattle.gb_goal.specs.Scope.{Declarations}
 use Rattle.gb_elab_mod.specs.Occurring.{Closed, Locals, added, at_head, at_term, local, or_args, read_locals, returned, row_locals, row_read, statement_locals, with_all}
 use mathlib.Core.Former.{Count}
 
@@ -98,9 +99,9 @@ module _ (ds : Declarations) where
   body_locals : (is : List Instr) → row_locals ds (B.hidden-the_row-Instr-1 is) ≡ flat_map (statement_locals ds) is
   body_locals is = row_body (B.hidden-the_row-Instr-1 is) ∙ ap (flat_map (statement_locals ds)) (items_hidden-the_row-Instr-1 is)
 
-  pub call_locals : (xs : List Var) (p : ProcRef) (es : List Term) → statement_locals ds (Call xs p es) ≡ returned xs (procedure_of ds p) ++ flat_map (λ t. read_locals t side.Own) es
+  pub call_locals : (xs : List Var) (p : ProcRef) (es : List Term) → statement_locals ds (Call xs p es) ≡ returned xs (procedure_type ds None p) ++ flat_map (λ t. read_locals t side.Own) es
   call_locals xs p es =
-      ap (λ ys. returned xs (procedure_of ds p) ++ ys) (row_terms (B.hidden-the_row-Term-0 es) ∙ ap (flat_map (λ t. read_locals t side.Own)) (items_hidden-the_row-Term-0 es))
+      ap (λ ys. returned xs (procedure_type ds None p) ++ ys) (row_terms (B.hidden-the_row-Term-0 es) ∙ ap (flat_map (λ t. read_locals t side.Own)) (items_hidden-the_row-Term-0 es))
 
   pub if_locals : (e : Term) (a b : Cmd) →
       statement_locals ds (If e a b) ≡ read_locals e side.Own ++ (flat_map (statement_locals ds) a.list ++ flat_map (statement_locals ds) b.list)

@@ -1,7 +1,7 @@
 -- The procedure that the last statement of a body calls.
 use Rattle.std.proofs.Common.{◌≡◌, List, [], ◌∷◌, ◌++◌, length, None, refl, ap, sym, ◌∙◌, arith}
 use Rattle.gb_terms.specs.declared.term.Instr.{Instr}
-use Rattle.gb_elab_mod.specs.Steps.{procedure_called, last_procedure}
+use Rattle.gb_elab_mod.specs.OnPrograms.{procedure_called, last_procedure}
 
 last_of : (before : List Instr) (i : Instr) → last_procedure (before ++ (i ∷ [])) ≡ procedure_called i
 last_of [] i = refl

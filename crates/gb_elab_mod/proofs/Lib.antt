@@ -1,3 +1,4 @@
 pub mod OtherLocals
 pub mod Found
 pub mod LastProcedures
+pub mod Betweens

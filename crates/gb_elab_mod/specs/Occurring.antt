@@ -5,7 +5,6 @@ use Rattle.gb_core.specs.declared.ty.Ty.{Ty, out-Ty}
 use Rattle.gb_core.specs.declared.ty.Ty.TheOpen as ty_layer
 use Rattle.gb_core.specs.declared.var.Var.{Var}
 use Rattle.gb_core.specs.declared.var.Var.TheVariants.{Local}
-use Rattle.gb_terms.specs.declared.decl.Proc.{Proc}
 use Rattle.gb_terms.specs.declared.decl.TypedName.{TypedName}
 use Rattle.gb_terms.specs.declared.op.Side.{Side}
 use Rattle.gb_terms.specs.declared.op.Side.TheVariants as side
@@ -16,7 +15,8 @@ use Rattle.gb_terms.specs.declared.term.Head.TheOpen as layer
 use Rattle.gb_terms.specs.declared.term.Head.TheFolds.{fold-Term}
 use Rattle.gb_terms.specs.declared.term.Instr.{Instr, Row_of-Instr, end_of-Instr, more_of-Instr}
 use Rattle.gb_terms.specs.Equal.{side_eq}
-use Rattle.gb_goal.specs.Scope.{Declarations, procedure_of}
+use Rattle.gb_goal.specs.Interfaces.{ProcedureType, procedure_type}
+use Rattle.gb_goal.specs.Scope.{Declarations}
 
 -- the local that a variable of this type is
 abbrev pub local : Var → Ty → List TypedName
@@ -73,7 +73,7 @@ taking (x ∷ []) t = local x t
 taking xs t = part_locals xs (out-Ty t)
 
 -- the locals that take the result of a procedure
-abbrev pub returned : List Var → Option Proc → List TypedName
+abbrev pub returned : List Var → Option ProcedureType → List TypedName
 returned xs None = []
 returned xs (Some f) = taking xs f.result
 
@@ -87,7 +87,7 @@ abbrev mutual
   pub statement_locals : Declarations → Instr → List TypedName
   statement_locals ds (Assign xs e) = taking xs (out-Term e).ty ++ read_locals e side.Own
   statement_locals ds (Sample x d) = sampled x d ++ read_locals d side.Own
-  statement_locals ds (Call' xs p n es) = returned xs (procedure_of ds p) ++ row_read es
+  statement_locals ds (Call' xs p n es) = returned xs (procedure_type ds None p) ++ row_read es
   statement_locals ds (If' e m a n b) = read_locals e side.Own ++ (row_locals ds a ++ row_locals ds b)
   statement_locals ds (While' e v n a) = read_locals e side.Own ++ (read_locals v side.Own ++ row_locals ds a)
 

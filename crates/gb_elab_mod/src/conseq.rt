@@ -5,8 +5,9 @@ ghost use Rattle.gb_script.specs.Tree.{parts_of};
 ghost use Rattle.gb_goal.specs.Answers.{Answers};
 ghost use Rattle.gb_goal.specs.Views.{code_seen, goal_seen};
 ghost use Rattle.gb_names.specs.Environment.{ambient, environment, relational, unary};
-ghost use Rattle.gb_elab_mod.specs.Steps.{conseq_of, conseq_rule, locals_after, locals_before, of_bodies_rule, said_anew, term_if};
+ghost use Rattle.gb_elab_mod.specs.OnPrograms.{conseq_of, conseq_rule, locals_after, locals_before, of_bodies_rule, said_anew, term_if};
 
+use crate::contract::{params_of, result_if};
 use crate::occurring::occurring_between;
 use gb_core::refusal::Refused;
 use gb_core::ty::Ty;
@@ -14,15 +15,12 @@ use gb_elab::form::typed;
 use gb_goal::goal::{Code, Goal, goal_of};
 use gb_goal::scope::Scope;
 use gb_goal::sequent::Sequent;
-use gb_names::judgment::result_of;
 use gb_names::setting::Setting;
 use gb_script::tree::Node;
 use gb_steps::step::{Acts, BodyRule, Rule, Weakened};
 use gb_terms::decl::Typed;
 use gb_terms::op::Side;
-use gb_terms::share::copy_typed;
 use gb_terms::term::{Form, Term};
-use sqlite_items::Items;
 use std::alloc::{AllocError, Global};
 
 /// What is written of a precondition, a postcondition and a bound, each at most once.
@@ -54,10 +52,7 @@ fn locals_before(
         Code::Body(list) => {
             occurring_between(alloc, scope, conditions.pre, conditions.post, side, list)
         }
-        Code::Procedure(named) => match scope.procedure(named) {
-            Some(procedure) => copy_typed(alloc, procedure.params.as_slice()),
-            None => Ok(Items::new(alloc)),
-        },
+        Code::Procedure(named) => params_of(alloc, scope, named),
     }
 }
 
@@ -75,10 +70,7 @@ fn locals_after(
         Code::Body(list) => {
             occurring_between(alloc, scope, conditions.pre, conditions.post, side, list)
         }
-        Code::Procedure(named) => match scope.procedure(named) {
-            Some(procedure) => result_of(alloc, procedure),
-            None => Ok(Items::new(alloc)),
-        },
+        Code::Procedure(named) => result_if(alloc, scope, named),
     }
 }
 
@@ -176,7 +168,7 @@ fn of_two<'a>(
 }
 
 /// What is written at a goal that is seen so.
-#[tactic(auto, unfolding(crate::specs::Steps::conseq_of))]
+#[tactic(auto, unfolding(crate::specs::OnPrograms::conseq_of))]
 fn conseq_of(
     alloc: Global,
     scope: &Scope,

@@ -1,15 +1,15 @@
 // The typing of what procedures are said to do, and of `call`, by that and by what is known.
 
-ghost use Rattle.std.specs.Prelude.{◌≡◌, [], Some, IfOk};
+ghost use Rattle.std.specs.Prelude.{◌≡◌, [], None, Some, IfOk};
 ghost use Rattle.std.specs.Option.{option_copied};
 ghost use Rattle.gb_script.specs.Tree.{head_of, parts_of};
 ghost use Rattle.gb_goal.specs.Answers.{Answers};
 ghost use Rattle.gb_core.specs.declared.ty.Ty.TheVariants.{Bool};
-ghost use Rattle.gb_goal.specs.Scope.{procedure_of};
+ghost use Rattle.gb_goal.specs.Interfaces.{procedure_type};
 ghost use Rattle.gb_goal.specs.Views.{goal_seen};
 ghost use Rattle.gb_elab.specs.Forms.{elaborated};
 ghost use Rattle.gb_names.specs.Environment.{relational, unary};
-ghost use Rattle.gb_elab_mod.specs.Steps.{call_rule, contract_at, contract_of, contract_of_both, contract_on, last_procedure, params_if, procedure_called, related, result_if, said_around};
+ghost use Rattle.gb_elab_mod.specs.OnPrograms.{call_rule, contract_at, contract_of, contract_of_both, contract_on, last_procedure, params_if, procedure_called, related, result_if, said_around};
 
 use crate::uses::used;
 use gb_core::place::Place;
@@ -17,6 +17,7 @@ use gb_core::refusal::Refused;
 use gb_core::ty::Ty;
 use gb_elab::form::typed;
 use gb_goal::goal::{Code, Goal, goal_of};
+use gb_goal::interface::procedure_type;
 use gb_goal::scope::Scope;
 use gb_goal::sequent::Sequent;
 use gb_names::judgment::result_of;
@@ -25,7 +26,7 @@ use gb_names::setting::Setting;
 use gb_script::head::Head;
 use gb_script::tree::Node;
 use gb_steps::step::{Acts, BodyRule, Contract, Rule};
-use gb_terms::decl::{Proc, Typed};
+use gb_terms::decl::Typed;
 use gb_terms::module::ProcRef;
 use gb_terms::share::copy_typed;
 use gb_terms::term::{Form, Instr};
@@ -54,21 +55,21 @@ fn last_procedure(body: &[Instr]) -> Option<&ProcRef>
 }
 
 /// The parameters of a procedure that may be declared.
-fn params_if(alloc: Global, declared: Option<&Proc>) -> Result<Typed, AllocError>
-    ensures { IfOk result (λ made. made ≡ params_if (option_copied declared.entry)) }
+pub fn params_of(alloc: Global, scope: &Scope, procedure: &ProcRef) -> Result<Typed, AllocError>
+    ensures { IfOk result (λ made. made ≡ params_if (procedure_type scope.now None procedure.now)) }
 {
-    match declared {
-        Some(procedure) => copy_typed(alloc, procedure.params.as_slice()),
+    match procedure_type(scope, None, procedure) {
+        Some(ty) => copy_typed(alloc, ty.params),
         None => Ok(Items::new(alloc)),
     }
 }
 
 /// Its result.
-fn result_if(alloc: Global, declared: Option<&Proc>) -> Result<Typed, AllocError>
-    ensures { IfOk result (λ made. made ≡ result_if (option_copied declared.entry)) }
+pub fn result_if(alloc: Global, scope: &Scope, procedure: &ProcRef) -> Result<Typed, AllocError>
+    ensures { IfOk result (λ made. made ≡ result_if (procedure_type scope.now None procedure.now)) }
 {
-    match declared {
-        Some(procedure) => result_of(alloc, procedure),
+    match procedure_type(scope, None, procedure) {
+        Some(ty) => result_of(alloc, ty),
         None => Ok(Items::new(alloc)),
     }
 }
@@ -88,9 +89,9 @@ fn said_before(
     said: &Node,
     procedure: &ProcRef,
 ) -> Result<Form, Refused>
-    ensures { Answers (elaborated said.now (unary scope.now goal.now (params_if (procedure_of scope.now procedure.now))) [] (Some Bool)) result }
+    ensures { Answers (elaborated said.now (unary scope.now goal.now (params_if (procedure_type scope.now None procedure.now))) [] (Some Bool)) result }
 {
-    let params = params_if(alloc, scope.procedure(procedure))?;
+    let params = params_of(alloc, scope, procedure)?;
     let before = Setting::unary(scope, goal, params.as_slice());
     typed(alloc, &before, &[], said, Some(&Ty::Bool))
 }
@@ -107,9 +108,9 @@ pub fn said_after(
     said: &Node,
     procedure: &ProcRef,
 ) -> Result<Form, Refused>
-    ensures { Answers (elaborated said.now (unary scope.now goal.now (result_if (procedure_of scope.now procedure.now))) [] (Some Bool)) result }
+    ensures { Answers (elaborated said.now (unary scope.now goal.now (result_if (procedure_type scope.now None procedure.now))) [] (Some Bool)) result }
 {
-    let result = result_if(alloc, scope.procedure(procedure))?;
+    let result = result_if(alloc, scope, procedure)?;
     let after = Setting::unary(scope, goal, result.as_slice());
     typed(alloc, &after, &[], said, Some(&Ty::Bool))
 }
@@ -119,7 +120,7 @@ pub fn said_after(
 /// # Errors
 ///
 /// Those of typing.
-#[tactic(auto, unfolding(crate::specs::Steps::said_around))]
+#[tactic(auto, unfolding(crate::specs::OnPrograms::said_around))]
 pub fn said_around(
     alloc: Global,
     scope: &Scope,
@@ -135,7 +136,7 @@ pub fn said_around(
 }
 
 /// What a called procedure is said to do: a precondition reads its parameters, and a postcondition its result.
-#[tactic(auto, unfolding(crate::specs::Steps::contract_of, crate::specs::Steps::said_around))]
+#[tactic(auto, unfolding(crate::specs::OnPrograms::contract_of, crate::specs::OnPrograms::said_around))]
 fn contract_of(
     alloc: Global,
     scope: &Scope,
@@ -162,10 +163,10 @@ fn before_both(
     left: &ProcRef,
     right: &ProcRef,
 ) -> Result<Form, Refused>
-    ensures { Answers (elaborated said.now (relational scope.now goal.now (params_if (procedure_of scope.now left.now)) (params_if (procedure_of scope.now right.now))) [] (Some Bool)) result }
+    ensures { Answers (elaborated said.now (relational scope.now goal.now (params_if (procedure_type scope.now None left.now)) (params_if (procedure_type scope.now None right.now))) [] (Some Bool)) result }
 {
-    let params = params_if(alloc, scope.procedure(left))?;
-    let others = params_if(alloc, scope.procedure(right))?;
+    let params = params_of(alloc, scope, left)?;
+    let others = params_of(alloc, scope, right)?;
     let before = Setting::relational(scope, goal, params.as_slice(), others.as_slice());
     typed(alloc, &before, &[], said, Some(&Ty::Bool))
 }
@@ -179,10 +180,10 @@ fn after_both(
     left: &ProcRef,
     right: &ProcRef,
 ) -> Result<Form, Refused>
-    ensures { Answers (elaborated said.now (relational scope.now goal.now (result_if (procedure_of scope.now left.now)) (result_if (procedure_of scope.now right.now))) [] (Some Bool)) result }
+    ensures { Answers (elaborated said.now (relational scope.now goal.now (result_if (procedure_type scope.now None left.now)) (result_if (procedure_type scope.now None right.now))) [] (Some Bool)) result }
 {
-    let result = result_if(alloc, scope.procedure(left))?;
-    let other = result_if(alloc, scope.procedure(right))?;
+    let result = result_if(alloc, scope, left)?;
+    let other = result_if(alloc, scope, right)?;
     let after = Setting::relational(scope, goal, result.as_slice(), other.as_slice());
     typed(alloc, &after, &[], said, Some(&Ty::Bool))
 }
@@ -192,7 +193,7 @@ fn after_both(
 /// # Errors
 ///
 /// Those of typing.
-#[tactic(auto, unfolding(crate::specs::Steps::related))]
+#[tactic(auto, unfolding(crate::specs::OnPrograms::related))]
 pub fn related(
     alloc: Global,
     scope: &Scope,
@@ -209,7 +210,7 @@ pub fn related(
 }
 
 /// What two called procedures are said to do: a precondition reads the parameters of both, and a postcondition both results.
-#[tactic(auto, unfolding(crate::specs::Steps::contract_of_both, crate::specs::Steps::related))]
+#[tactic(auto, unfolding(crate::specs::OnPrograms::contract_of_both, crate::specs::OnPrograms::related))]
 fn contract_of_both(
     alloc: Global,
     scope: &Scope,

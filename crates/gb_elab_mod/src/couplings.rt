@@ -6,7 +6,7 @@ ghost use Rattle.gb_terms.specs.declared.term.Term.{out-Term};
 ghost use Rattle.gb_goal.specs.Answers.{Answers, ◌>>=◌ as ◌and_then◌};
 ghost use Rattle.gb_goal.specs.Answers.Answer.{given};
 ghost use Rattle.gb_names.specs.Environment.{environment};
-ghost use Rattle.gb_elab_mod.specs.Steps.{bodies, coupling_rule, couplings, drawing_rule, functions, functions_of, is_apply, judges_chance, last_sampled, one_type, there_and_back};
+ghost use Rattle.gb_elab_mod.specs.OnPrograms.{bodies, coupling_rule, couplings, drawing_rule, functions, functions_of, is_apply, judges_chance, last_sampled, one_type, there_and_back};
 
 use crate::occurring::occurring;
 use gb_core::Shared;
@@ -109,7 +109,7 @@ fn coupling_rule(conclusion: &Form, functions: &[Node], typed: Terms) -> Rule
 }
 
 /// The typed functions of `rnd`: the first leads from the left outcome to the right one, the second back.
-#[tactic(auto, unfolding(crate::specs::Steps::couplings))]
+#[tactic(auto, unfolding(crate::specs::OnPrograms::couplings))]
 fn couplings(
     alloc: Global,
     scope: &Scope,
@@ -133,7 +133,7 @@ fn couplings(
 }
 
 /// `rnd` on the programs on which a step acts. A function is one between samplings of both, and fits no side.
-#[tactic(auto, unfolding(crate::specs::Steps::drawing_rule))]
+#[tactic(auto, unfolding(crate::specs::OnPrograms::drawing_rule))]
 pub fn drawing_rule(
     alloc: Global,
     scope: &Scope,
@@ -154,7 +154,7 @@ pub fn drawing_rule(
 }
 
 /// Functions between two types: the first leads there, the others back.
-#[tactic(auto, unfolding(crate::specs::Steps::there_and_back))]
+#[tactic(auto, unfolding(crate::specs::OnPrograms::there_and_back))]
 fn there_and_back(
     alloc: Global,
     at: &Setting<'_>,

@@ -10,7 +10,7 @@ ghost use Rattle.gb_elab_prog.specs.Unbuilt.{absent};
 ghost use Rattle.gb_goal.specs.Answers.{Answers, ◌>>=◌ as ◌and_then◌};
 ghost use Rattle.gb_goal.specs.Views.{goal_seen};
 ghost use Rattle.gb_elab_mod.specs.Multiples.{position};
-ghost use Rattle.gb_elab_mod.specs.Steps.{case_of_bodies, cut_of, cut_rule, of_bodies_rule, said_of_bodies, seq_rule, while_rule};
+ghost use Rattle.gb_elab_mod.specs.OnPrograms.{case_of_bodies, cut_of, cut_rule, of_bodies_rule, said_of_bodies, seq_rule, while_rule};
 
 use crate::occurring::occurring_between;
 use gb_core::place::Place;
@@ -94,7 +94,7 @@ fn on_two(
 }
 
 /// The form between the parts of the bodies of a goal that is seen so.
-#[tactic(auto, unfolding(crate::specs::Steps::cut_rule))]
+#[tactic(auto, unfolding(crate::specs::OnPrograms::cut_rule))]
 fn cut_rule(
     alloc: Global,
     scope: &Scope,
@@ -119,7 +119,7 @@ fn cut_rule(
 }
 
 /// A form that a step says of the bodies of a judgment that is seen so.
-#[tactic(auto, unfolding(crate::specs::Steps::said_of_bodies))]
+#[tactic(auto, unfolding(crate::specs::OnPrograms::said_of_bodies))]
 fn said_of_bodies(
     alloc: Global,
     scope: &Scope,

@@ -9,6 +9,7 @@ use gb_chances::first::first_procedure;
 use gb_core::name::Name;
 use gb_core::place::Place;
 use gb_core::refusal::Refused;
+use gb_goal::interface::procedure_type;
 use gb_goal::scope::Scope;
 use gb_goal::sequent::Sequent;
 use gb_names::refusals::not_built;
@@ -64,7 +65,7 @@ pub fn splitting_rule(
     let Some(procedure) = first_procedure(&goal.conclusion) else {
         return Ok(Rule::OnBodies(BodyRule::Unfit));
     };
-    if scope.procedure(procedure.get()).is_none() {
+    if procedure_type(scope, None, procedure.get()).is_none() {
         return Ok(Rule::OnBodies(BodyRule::Unfit));
     }
     let event = said_after(alloc, scope, goal, event, procedure.get())?;

@@ -1,7 +1,7 @@
 // The locals of the bodies of a goal: those that occur in it, each with the type that it has there.
 
-ghost use Rattle.std.specs.Prelude.{◌≡◌, [], ◌∷◌, flat_map, if◌then◌else◌, IfOk, OnOk};
-ghost use Rattle.gb_goal.specs.Scope.{procedure_of};
+ghost use Rattle.std.specs.Prelude.{◌≡◌, [], ◌∷◌, None, flat_map, if◌then◌else◌, IfOk, OnOk};
+ghost use Rattle.gb_goal.specs.Interfaces.{procedure_type};
 ghost use Rattle.gb_elab_mod.specs.Occurring.{added, each_local, local, occurring, read_locals, returned, sampled, statement_locals, taking, with_all};
 
 use gb_core::Shared;
@@ -10,6 +10,7 @@ use gb_core::name::Name;
 use gb_core::ty::Ty;
 use gb_core::var::Var;
 use gb_elab_prog::procedure::is_local;
+use gb_goal::interface::procedure_type;
 use gb_goal::scope::Scope;
 use gb_names::binders::variable;
 use gb_terms::decl::Typed;
@@ -181,10 +182,10 @@ fn in_result(
     vars: &[Var],
     called: &ProcRef,
 ) -> Result<(), AllocError>
-    ensures { OnOk result (found.new ≡ with_all found.old (returned vars.now (procedure_of scope.now called.now))) }
+    ensures { OnOk result (found.new ≡ with_all found.old (returned vars.now (procedure_type scope.now None called.now))) }
 {
-    match scope.procedure(called) {
-        Some(procedure) => in_targets(alloc, found, vars, &procedure.result),
+    match procedure_type(scope, None, called) {
+        Some(ty) => in_targets(alloc, found, vars, ty.result),
         None => Ok(()),
     }
 }

@@ -2,7 +2,7 @@
 
 ghost use Rattle.gb_goal.specs.Answers.{Answers};
 ghost use Rattle.gb_chances.specs.Chances.{bounded_of, chances_of};
-ghost use Rattle.gb_elab_mod.specs.Steps.{by_equiv_rule, by_phoare_rule, by_rule};
+ghost use Rattle.gb_elab_mod.specs.OnPrograms.{by_equiv_rule, by_phoare_rule, by_rule};
 
 use crate::contract::{Said, related, said_around};
 use gb_chances::chances::{bounded_of, chances_of};

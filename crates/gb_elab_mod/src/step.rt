@@ -5,7 +5,8 @@ ghost use Rattle.gb_script.specs.Tree.{parts_of};
 ghost use Rattle.gb_elab_prog.specs.Unbuilt.{absent};
 ghost use Rattle.gb_goal.specs.Answers.{Answers, ◌>>=◌ as ◌and_then◌};
 ghost use Rattle.gb_goal.specs.Answers.Answer.{given};
-ghost use Rattle.gb_elab_mod.specs.Steps.{acts, both_rule, chance_rule, equals_rule, event_rule, looping_rule, named_rule, on_all, pattern, plain_rule, step_given, transforming_rule, typed_rule, used_rule};
+ghost use Rattle.gb_elab_mod.specs.OnPrograms.{acts, both_rule, chance_rule, named_rule, on_all, plain_rule};
+ghost use Rattle.gb_elab_mod.specs.Steps.{equals_rule, event_rule, looping_rule, pattern, step_given, transforming_rule, typed_rule, used_rule};
 
 use crate::between::transitive_rule;
 use crate::conclusions::{conclusion_rule, have_rule, sided_case_rule};

@@ -1,23 +1,24 @@
 -- Modules that are bound. Programs are found by the names of modules, so no module that stands has the name of one that is bound.
-use Rattle.std.specs.Prelude.{if◌then◌else◌, List, [], ◌∷◌, is_some, bytes_eq}
+use Rattle.std.specs.Prelude.{ℕ, Bool, false, ◌||◌, if◌then◌else◌, List, Option, Some, None, is_some, bytes_eq}
 use Rattle.gb_core.specs.declared.refusal.Why.TheVariants.{DoubleName}
-use Rattle.gb_goal.specs.Answers.{Answer, ◌>>=◌, not_built}
+use Rattle.gb_terms.specs.declared.decl.Param.{Param}
+use Rattle.gb_goal.specs.Answers.{Answer}
 use Rattle.gb_goal.specs.Answers.Answer.{given, refused}
 use Rattle.gb_goal.specs.Scope.{Declarations, module_of}
 use Rattle.gb_script.specs.declared.tree.Node.{Node}
-use Rattle.gb_script.specs.Tree.{text_of, parts_of, place_of}
+use Rattle.gb_script.specs.Tree.{text_of, place_of}
+use Rattle.gb_names.specs.Names.{is_parameter}
 
 -- the name of a bound module, which no declared one has
 abbrev pub apart : Declarations → Node → Answer (Unit {0})
 apart ds x = if is_some (module_of ds (text_of x)) then refused (DoubleName (text_of x)) (place_of x) else given tt
 
--- the name of a parameter of a module, which isn't the module's own either
-abbrev pub parameter_name : Declarations → Node → List Node → Answer (Unit {0})
-parameter_name ds m [] = given tt
-parameter_name ds m (x ∷ ps) =
-    if bytes_eq (text_of x) (text_of m) then refused (DoubleName (text_of x)) (place_of x) else apart ds x
+-- the name of the module that has a parameter; a module type's own name doesn't count
+abbrev pub is_own : Option (List ℕ) → List ℕ → Bool
+is_own None x = false
+is_own (Some n) x = bytes_eq x n
 
--- the parameters of a module, of which none is built
-abbrev pub parameters : Declarations → Node → List Node → Answer (Unit {0})
-parameters ds m [] = given tt
-parameters ds m (q ∷ qs) = parameter_name ds m (parts_of q) >>= λ _. not_built (place_of m)
+-- the name of a parameter, which neither its module has, nor a parameter before it, nor a declared module
+abbrev pub parameter_name : Declarations → Option (List ℕ) → List Param → Node → Answer (Unit {0})
+parameter_name ds own qs x =
+    if is_own own (text_of x) || is_parameter qs (text_of x) then refused (DoubleName (text_of x)) (place_of x) else apart ds x

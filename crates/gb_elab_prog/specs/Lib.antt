@@ -7,6 +7,6 @@ pub mod Types
 pub mod Operators
 pub mod Entries
 pub mod Procedures
-pub mod Meets
 pub mod Modules
 pub mod ModuleTypes
+pub mod Stated

@@ -6,6 +6,7 @@ use Rattle.gb_core.specs.declared.refusal.Why.TheVariants.{Argument, DoubleName,
 use Rattle.gb_terms.specs.declared.decl.Param.{Param}
 use Rattle.gb_goal.specs.Answers.{Answer, ◌>>=◌, given_or, not_built}
 use Rattle.gb_goal.specs.Answers.Answer.{given, refused}
+use Rattle.gb_goal.specs.Interfaces.{signatures_of}
 use Rattle.gb_goal.specs.Scope.{Declarations, module_type_of}
 use Rattle.gb_goal.specs.declared.module_type.MayCall.{MayCall}
 use Rattle.gb_goal.specs.declared.module_type.MayCall.TheVariants.{Every, Those}
@@ -18,8 +19,9 @@ use Rattle.gb_script.specs.declared.head.Head.TheVariants as head
 use Rattle.gb_script.specs.declared.tree.Node.{Node}
 use Rattle.gb_script.specs.Tree.{head_of, text_of, parts_of, place_of}
 use Rattle.gb_names.specs.Names.{no_declared}
+use Rattle.gb_mods.specs.Reach.{signature_of}
 use Rattle.gb_elab_stmt.specs.Targets.{spelled_by}
-use Rattle.gb_elab_prog.specs.Bound.{apart}
+use Rattle.gb_elab_prog.specs.Bound.{parameter_name}
 use Rattle.gb_elab_prog.specs.Fresh.{free}
 use Rattle.gb_elab_prog.specs.Procedures.{formals, result_type}
 use Rattle.gb_elab_prog.specs.Types.{only}
@@ -31,23 +33,22 @@ use Rattle.gb_elab_prog.specs.Types.{only}
 abbrev pub module_type_at : Declarations → Node → Answer ModuleType
 module_type_at ds t = given_or (module_type_of ds (spelled_by t)) (no_declared None ds (spelled_by t)) (place_of t)
 
+-- a parameter of this name and of the module type that a path names
+abbrev pub param : Node → Node → Param
+param x t = record { name = text_of x; ty = spelled_by t }
+
 -- Parameters of a module type have module types that have none themselves.
 abbrev pub without_parameters : List Param → Place → Answer (Unit {0})
 without_parameters [] p = given tt
 without_parameters (q ∷ qs) p = refused Argument p
 
--- the name of a parameter, which neither a declared module has nor another parameter
-abbrev pub parameter_name : Declarations → List Param → Node → Answer (Unit {0})
-parameter_name ds qs x =
-    if list_any (λ q. bytes_eq q.name (text_of x)) qs then refused (DoubleName (text_of x)) (place_of x) else apart ds x
-
 -- a parameter beside those before it
 abbrev pub parameter : Declarations → List Param → Head → List Node → Place → Answer (List Param)
 parameter ds qs head.ModuleParameter (x ∷ t ∷ []) p = do
-  _ ← parameter_name ds qs x
+  _ ← parameter_name ds None qs x
   u ← module_type_at ds t
   _ ← without_parameters u.params (place_of t)
-  given (qs ++ record { name = text_of x; ty = spelled_by t } ∷ [])
+  given (qs ++ param x t ∷ [])
 parameter ds qs _ _ p = not_built p
 
 -- parameters, in order
@@ -55,19 +56,10 @@ abbrev pub parameters : Declarations → List Param → List Node → Answer (Li
 parameters ds qs [] = given qs
 parameters ds qs (t ∷ ts) = parameter ds qs (head_of t) (parts_of t) (place_of t) >>= λ rs. parameters ds rs ts
 
--- the procedures of a parameter of this name
-abbrev pub signatures_in : Option ModuleType → List Signature
-signatures_in None = []
-signatures_in (Some t) = t.signatures
-
-abbrev pub signatures_of : Declarations → List Param → List ℕ → Option (List Signature)
-signatures_of ds [] x = None
-signatures_of ds (q ∷ qs) x = if bytes_eq q.name x then Some (signatures_in (module_type_of ds q.ty)) else signatures_of ds qs x
-
--- the signature of this name
-abbrev pub signature_of : List Signature → List ℕ → Option Signature
-signature_of [] n = None
-signature_of (s ∷ ss) n = if bytes_eq s.name n then Some s else signature_of ss n
+-- the procedures of the parameter of this name
+abbrev pub signatures_named : Declarations → List Param → List ℕ → Option (List Signature)
+signatures_named ds [] x = None
+signatures_named ds (q ∷ qs) x = if bytes_eq q.name x then Some (signatures_of (module_type_of ds q.ty)) else signatures_named ds qs x
 
 -- the procedure of this name among those of a parameter
 abbrev pub oracle_among : List Signature → Node → Node → Answer Oracle
@@ -78,7 +70,7 @@ oracle_among ss x f = do
 -- a procedure of a parameter
 abbrev pub oracle : Declarations → List Param → Head → List Node → Place → Answer Oracle
 oracle ds qs head.Oracle (x ∷ f ∷ []) p = do
-  ss ← given_or (signatures_of ds qs (text_of x)) (UnknownName (text_of x)) (place_of x)
+  ss ← given_or (signatures_named ds qs (text_of x)) (UnknownName (text_of x)) (place_of x)
   oracle_among ss x f
 oracle ds qs _ _ p = not_built p
 

@@ -17,10 +17,11 @@ use Rattle.gb_names.specs.Binders.{of_type}
 use Rattle.gb_names.specs.Types.{type_of}
 use Rattle.gb_elab_prog.specs.Procedures.{procedure_by}
 use Rattle.gb_elab_stmt.specs.Statements.{places}
-use Rattle.gb_elab_prog.specs.Bound.{parameters}
-use Rattle.gb_elab_prog.specs.Meets.{Stated, meets}
-use Rattle.gb_elab_prog.specs.ModuleTypes.{module_type_at}
-use Rattle.gb_elab_stmt.specs.Targets.{spelled_by}
+use Rattle.gb_elab_prog.specs.Bound.{parameter_name}
+use Rattle.gb_elab_prog.specs.ModuleTypes.{module_type_at, param}
+use Rattle.gb_elab_prog.specs.Stated.{Stated, meets_stated, stated}
+use Rattle.gb_elab_prog.specs.declared.stated.Where.{Where}
+use Rattle.gb_elab_prog.specs.declared.stated.Where.TheVariants.{Front, Behind}
 
 -- the names of the members of a module
 abbrev pub member_names : Module → List (List ℕ)
@@ -62,38 +63,49 @@ abbrev pub all_short : List Node → Answer (Unit {0})
 all_short [] = given tt
 all_short (t ∷ ts) = short (head_of t) (parts_of t) >>= λ _. all_short ts
 
--- a module of this name, without members
+-- a module of this name, without parameters and members
 abbrev pub empty_module : List ℕ → Module
 empty_module x = record { name = x; params = []; globals = []; procs = [] }
 
--- the module type that a module states
-abbrev pub stated : Declarations → List Node → Answer (Option Stated)
-stated ds [] = given None
-stated ds (t ∷ ts) = module_type_at ds t >>= λ u. given (Some (record { name = spelled_by t; asked = u; place = place_of t }))
+-- a module with one parameter more: it may have any module type
+abbrev pub typed_parameter : Declarations → Module → Node → Node → Answer Module
+typed_parameter ds m x t = do
+  _ ← parameter_name ds (Some m.name) m.params x
+  _ ← module_type_at ds t
+  given (record m { params = m.params ++ param x t ∷ [] })
 
--- A module of this name with its members: it meets the module type that it states, which is tested behind all types, and sizes behind that.
-unfoldable pub with_body : Declarations → Node → Option Stated → List Node → Answer Module
-with_body ds x o ts = do
-  made ← with_members ds nothing_around (empty_module (text_of x)) ts
-  _ ← meets made o
+abbrev pub with_parameter : Declarations → Module → Head → List Node → Place → Answer Module
+with_parameter ds m head.ModuleParameter (x ∷ t ∷ []) p = typed_parameter ds m x t
+with_parameter ds m _ _ p = not_built p
+
+-- .. with several, in the order of the text
+abbrev pub with_parameters : Declarations → Module → List Node → Answer Module
+with_parameters ds m [] = given m
+with_parameters ds m (t ∷ ts) = with_parameter ds m (head_of t) (parts_of t) (place_of t) >>= λ n. with_parameters ds n ts
+
+-- A module with its members: it meets the module type that it states, which is tested behind all types, and sizes behind that.
+unfoldable pub with_body : Declarations → Module → Where → Option Stated → List Node → Answer Module
+with_body ds m w o ts = do
+  made ← with_members ds nothing_around m ts
+  _ ← meets_stated ds w made o
   _ ← all_short ts
   given made
 
--- a module of this name without parameters, behind which its type may stand
+-- a module of this name with these parameters, behind which its type may stand
 unfoldable pub plain : Declarations → Node → List Node → List Node → List Node → Answer Module
-plain ds x qs m ts = do
+plain ds x qs u ts = do
   _ ← free ds x
-  _ ← parameters ds x qs
-  o ← stated ds m
-  with_body ds x o ts
+  m ← with_parameters ds (empty_module (text_of x)) qs
+  o ← stated ds u
+  with_body ds m Behind o ts
 
 -- .. whose type stands in front of them
 unfoldable pub ascribed : Declarations → Node → Node → List Node → List Node → Answer Module
 ascribed ds x t qs ts = do
   _ ← free ds x
   o ← stated ds (t ∷ [])
-  _ ← parameters ds x qs
-  with_body ds x o ts
+  m ← with_parameters ds (empty_module (text_of x)) qs
+  with_body ds m Front o ts
 
 -- a module by its head and its parts; the last clause takes what isn't built, with trees of another shape, of which the reader builds none,
 -- since each of its trees is well-sorted

@@ -1,12 +1,17 @@
 // Modules that are bound.
 
+ghost use Rattle.std.specs.Prelude.{◌≡◌};
+ghost use Rattle.std.specs.Option.{option_copied};
 ghost use Rattle.gb_goal.specs.Answers.{Answers};
-ghost use Rattle.gb_elab_prog.specs.Bound.{apart, parameter_name, parameters};
+ghost use Rattle.gb_elab_prog.specs.Bound.{apart, is_own, parameter_name};
 
+use gb_core::name::Name;
 use gb_core::refusal::Refused;
 use gb_goal::scope::Scope;
-use gb_names::refusals::{double, not_built};
+use gb_names::globals::is_parameter;
+use gb_names::refusals::double;
 use gb_script::tree::Node;
+use gb_terms::decl::Param;
 use std::alloc::Global;
 
 /// Refuses the name of a bound module that a declared one has: programs are found by these names.
@@ -19,42 +24,28 @@ pub fn refuse_module(alloc: Global, scope: &Scope, name: &Node) -> Result<(), Re
     }
 }
 
-/// Refuses the name of a parameter that its module or a declared one has.
-fn refuse_parameter(
-    alloc: Global,
-    scope: &Scope,
-    owner: &Node,
-    parts: &[Node],
-) -> Result<(), Refused>
-    ensures { Answers (parameter_name scope.now owner.now parts.now) result }
+fn is_own(own: Option<&Name>, name: &Name) -> bool
+    ensures { result ≡ is_own (option_copied own.entry) name.now }
 {
-    match parts {
-        [] => Ok(()),
-        [name, ..] => {
-            if name.text == owner.text {
-                Err(double(alloc, &name.text, name.place))
-            } else {
-                refuse_module(alloc, scope, name)
-            }
-        }
+    match own {
+        None => false,
+        Some(own) => *name == *own,
     }
 }
 
-/// Refuses parameters of a module: `DoubleName` where the first one has the name of this module or of a declared one, else
-/// `Syntax` at the module's name.
-pub fn refuse_parameters(
+/// Refuses the name of a parameter that its module has, if a module has it, or one before it, or a declared module.
+pub fn refuse_parameter(
     alloc: Global,
     scope: &Scope,
-    owner: &Node,
-    formals: &[Node],
+    own: Option<&Name>,
+    params: &[Param],
+    name: &Node,
 ) -> Result<(), Refused>
-    ensures { Answers (parameters scope.now owner.now formals.now) result }
+    ensures { Answers (parameter_name scope.now (option_copied own.entry) params.now name.now) result }
 {
-    match formals {
-        [] => Ok(()),
-        [first, ..] => {
-            refuse_parameter(alloc, scope, owner, first.parts.as_slice())?;
-            Err(not_built(owner.place))
-        }
+    if is_own(own, &name.text) || is_parameter(params, &name.text) {
+        Err(double(alloc, &name.text, name.place))
+    } else {
+        refuse_module(alloc, scope, name)
     }
 }

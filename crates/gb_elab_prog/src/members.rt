@@ -1,7 +1,6 @@
 // Members of modules: globals and procedures.
 
 ghost use Rattle.std.specs.Prelude.{◌≡◌, IfOk, MatchResult, OnOk};
-ghost use Rattle.gb_script.specs.Tree.{text_of};
 ghost use Rattle.gb_goal.specs.Answers.{Answers, Fails};
 ghost use Rattle.gb_goal.specs.Answers.Answer.{given};
 ghost use Rattle.gb_elab_prog.specs.Contexts.{nothing_around};
@@ -9,6 +8,7 @@ ghost use Rattle.gb_elab_prog.specs.Modules.{empty_module, member_names, with_gl
 
 use crate::context::{nothing_around, take_names};
 use crate::procedure::procedure;
+use gb_core::Shared;
 use gb_core::name::{Name, Names};
 use gb_core::place::Place;
 use gb_core::refusal::Refused;
@@ -22,14 +22,19 @@ use gb_terms::decl::Module;
 use sqlite_items::Items;
 use std::alloc::{AllocError, Global};
 
-/// The members of a module of this name, in the order of the text.
+/// A module with its members, in the order of the text.
 #[tactic(auto, unfolding(crate::specs::Modules::with_members))]
-pub fn members(alloc: Global, scope: &Scope, name: &Node, items: &[Node]) -> Result<Module, Refused>
-    ensures answer { Answers (with_members scope.now nothing_around (empty_module (text_of name.now)) items.now) result }
-    ensures name { IfOk result (λ m. m.name ≡ text_of name.now) }
+pub fn members(
+    alloc: Global,
+    scope: &Scope,
+    empty: Module,
+    items: &[Node],
+) -> Result<Module, Refused>
+    ensures answer { Answers (with_members scope.now nothing_around empty items.now) result }
+    ensures name { IfOk result (λ m. m.name ≡ empty.name) }
 {
     let around = nothing_around(alloc)?;
-    let mut module = empty_module(alloc, &name.text)?;
+    let mut module = empty;
     for item in items {
         add_member(
             alloc,
@@ -44,7 +49,8 @@ pub fn members(alloc: Global, scope: &Scope, name: &Node, items: &[Node]) -> Res
     Ok(module)
 }
 
-fn empty_module(alloc: Global, name: &Name) -> Result<Module, AllocError>
+/// A module of this name, without parameters and members.
+pub fn empty_module(alloc: Global, name: &Name) -> Result<Module, AllocError>
     ensures { IfOk result (λ m. m ≡ empty_module name.now) }
 {
     let name = name.copy(alloc)?;
@@ -89,7 +95,7 @@ fn member_names(alloc: Global, module: &Module) -> Result<Names, AllocError>
         names.push(x.name.copy(alloc)?)?;
     }
     for p in module.procs.as_slice() {
-        names.push(p.name.copy(alloc)?)?;
+        names.push(p.get().name.copy(alloc)?)?;
     }
     Ok(names)
 }
@@ -131,6 +137,6 @@ fn add_procedure(
     ensures name { OnOk result («module».new.name ≡ «module».old.name) }
 {
     let p = procedure(alloc, scope, around, module, head, parts, place)?;
-    module.procs.push(p)?;
+    module.procs.push(Shared::new(alloc, p)?)?;
     Ok(())
 }

@@ -1,18 +1,16 @@
 // Modules.
 
-ghost use Rattle.std.specs.Prelude.{◌≡◌, [], ◌∷◌, None, Some, IfOk};
+ghost use Rattle.std.specs.Prelude.{◌≡◌, None, IfOk};
 ghost use Rattle.std.specs.Option.{option_map};
-ghost use Rattle.gb_script.specs.Tree.{text_of};
 ghost use Rattle.gb_goal.specs.Scope.{entry_of};
-ghost use Rattle.gb_goal.specs.Answers.{Answers, Gives};
-ghost use Rattle.gb_elab_prog.specs.Meets.{seen};
-ghost use Rattle.gb_elab_prog.specs.Modules.{all_short, ascribed, module_by, module_given, plain, short, stated, with_body};
+ghost use Rattle.gb_goal.specs.Answers.{Answers};
+ghost use Rattle.gb_elab_prog.specs.Modules.{all_short, ascribed, module_by, module_given, plain, short, with_body};
+ghost use Rattle.gb_elab_prog.specs.Stated.{seen};
 
-use crate::bound::refuse_parameters;
 use crate::fresh::refuse_declared;
-use crate::meets::{Stated, meets};
 use crate::members::members;
-use crate::module_types::{module_type_at, spelled};
+use crate::parameters::with_parameters;
+use crate::stated::{Stated, Where, meets_stated, stated_at, stated_by};
 use gb_core::place::Place;
 use gb_core::refusal::{Refused, Why};
 use gb_elab_stmt::places::places;
@@ -30,11 +28,10 @@ pub const STATEMENTS: usize = 512;
 ///
 /// # Errors
 ///
-/// `DoubleName` at the module's name where it is taken. In the order of the text, `DoubleName` at the name of its first parameter where
-/// the module itself or a declared one has it, and `Syntax` at the module's name where it has parameters; `UnknownName` and `Argument` at
-/// a stated type that is no module type. Then `DoubleName` at the second global or procedure of one name, those of types and of
-/// `procedure`, in the order of the text; then `ModuleType` at the stated type where the module doesn't meet it; and then `TooMany`
-/// statements of a body. `Syntax` at the place of the tree where it declares no module of its own.
+/// `DoubleName` at the module's name where it is taken. In the order of the text, those of its parameters, and `UnknownName` and `Argument`
+/// at a stated type that is no module type. Then `DoubleName` at the second global or procedure of one name, those of types and of
+/// `procedure`, in the order of the text; then `ModuleType` and `Oracle` at the stated type where the module doesn't meet it; and then
+/// `TooMany` statements of a body. `Syntax` at the place of the tree where it declares no module of its own.
 pub fn module(alloc: Global, scope: &Scope, tree: &Node) -> Result<Module, Refused>
     ensures answer { Answers (module_given scope.now tree.now) result }
     ensures free { IfOk result (λ m. entry_of scope.now m.name ≡ None) }
@@ -72,52 +69,26 @@ fn module_by(
     }
 }
 
-/// The module type that this path names, as a module states it.
-fn stated_at<'a>(alloc: Global, scope: &'a Scope, path: &Node) -> Result<Stated<'a>, Refused>
-    ensures { Gives (λ s. Some (seen s)) (stated scope.now (path.now ∷ [])) result }
-{
-    let asked = module_type_at(alloc, scope, path)?;
-    let name = spelled(alloc, path)?;
-    let place = path.place;
-    Ok(Stated { name, asked, place })
-}
-
-/// The module type that a module states, if it states one.
-fn stated<'a>(
-    alloc: Global,
-    scope: &'a Scope,
-    paths: &[Node],
-) -> Result<Option<Stated<'a>>, Refused>
-    ensures { Gives (option_map seen) (stated scope.now paths.now) result }
-{
-    match paths {
-        [] => Ok(None),
-        [path, ..] => {
-            let stated = stated_at(alloc, scope, path)?;
-            Ok(Some(stated))
-        }
-    }
-}
-
-/// The typed tree of a module of this name with its members, which meets the module type that it states.
+/// A module with its members, which meets the module type that it states.
 #[tactic(auto, unfolding(crate::specs::Modules::with_body))]
 fn with_body(
     alloc: Global,
     scope: &Scope,
-    name: &Node,
+    empty: Module,
+    place: Where,
     stated: Option<Stated<'_>>,
     items: &[Node],
 ) -> Result<Module, Refused>
-    ensures answer { Answers (with_body scope.now name.now (option_map seen stated.entry) items.now) result }
-    ensures name { IfOk result (λ m. m.name ≡ text_of name.now) }
+    ensures answer { Answers (with_body scope.now empty place (option_map seen stated.entry) items.now) result }
+    ensures name { IfOk result (λ m. m.name ≡ empty.name) }
 {
-    let module = members(alloc, scope, name, items)?;
-    meets(alloc, &module, stated)?;
+    let module = members(alloc, scope, empty, items)?;
+    meets_stated(alloc, scope, place, &module, stated)?;
     refuse_long_bodies(alloc, items)?;
     Ok(module)
 }
 
-/// The typed tree of a module of this name without parameters, behind which its type may stand.
+/// A module of this name with its parameters, behind which its type may stand.
 #[tactic(auto, unfolding(crate::specs::Modules::plain))]
 fn plain(
     alloc: Global,
@@ -131,9 +102,9 @@ fn plain(
     ensures free { IfOk result (λ m. entry_of scope.now m.name ≡ None) }
 {
     refuse_declared(alloc, scope, name)?;
-    refuse_parameters(alloc, scope, name, parameters)?;
-    let stated = stated(alloc, scope, ty)?;
-    with_body(alloc, scope, name, stated, items)
+    let empty = with_parameters(alloc, scope, &name.text, parameters)?;
+    let stated = stated_by(alloc, scope, ty)?;
+    with_body(alloc, scope, empty, Where::Behind, stated, items)
 }
 
 /// The same of a module whose type stands in front of its parameters.
@@ -151,8 +122,8 @@ fn ascribed(
 {
     refuse_declared(alloc, scope, name)?;
     let stated = stated_at(alloc, scope, ty)?;
-    refuse_parameters(alloc, scope, name, parameters)?;
-    with_body(alloc, scope, name, Some(stated), items)
+    let empty = with_parameters(alloc, scope, &name.text, parameters)?;
+    with_body(alloc, scope, empty, Where::Front, Some(stated), items)
 }
 
 /// Refuses a body of too many statements, those in others counted, at the first one too many.

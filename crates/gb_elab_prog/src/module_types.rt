@@ -1,41 +1,31 @@
 // Module types.
 
-ghost use Rattle.std.specs.Prelude.{◌≡◌, [], IfOk, MatchResult, bytes_eq};
+ghost use Rattle.std.specs.Prelude.{◌≡◌, [], None, IfOk, MatchResult, bytes_eq};
 ghost use Rattle.std.specs.List.{list_any};
 ghost use Rattle.std.specs.Option.{option_copied};
 ghost use Rattle.gb_goal.specs.Answers.{Answers, Fails, Gives};
 ghost use Rattle.gb_goal.specs.Answers.Answer.{given};
-ghost use Rattle.gb_script.specs.Tree.{text_of};
-ghost use Rattle.gb_elab_stmt.specs.Targets.{spelled_by};
-ghost use Rattle.gb_elab_prog.specs.ModuleTypes.{may_call, module_type_at, module_type_entries, oracle, oracle_among, oracles, parameter, parameter_name, parameters, signature, signature_of, signatures, signatures_in, signatures_of, signed, unsigned, without_parameters};
+ghost use Rattle.gb_elab_prog.specs.ModuleTypes.{may_call, module_type_at, module_type_entries, oracle, oracle_among, oracles, param, parameter, parameters, signature, signatures, signatures_named, signed, unsigned, without_parameters};
 
-use crate::bound::refuse_module;
+use crate::bound::refuse_parameter;
 use crate::fresh::refuse_declared;
 use crate::procedure::{formals, result_type};
 use crate::types::only;
 use gb_core::name::Name;
 use gb_core::place::Place;
 use gb_core::refusal::Refused;
+use gb_goal::interface::signatures_of;
 use gb_goal::module_type::{MayCall, ModuleType, Oracle, Oracles, Signature, Signatures};
 use gb_goal::scope::{Entries, Entry, Scope};
+use gb_mods::reach::signature_named;
 use gb_names::globals::no_declared;
-use gb_names::names::path;
+use gb_names::names::spelled;
 use gb_names::refusals::{argument, double, not_built, unknown};
 use gb_script::head::Head;
 use gb_script::tree::Node;
 use gb_terms::decl::{Param, Params};
 use sqlite_items::{Boxed, Items};
 use std::alloc::{AllocError, Global};
-
-/// The name that a path of one word or of several spells.
-pub fn spelled(alloc: Global, tree: &Node) -> Result<Name, AllocError>
-    ensures { IfOk result (λ made. made ≡ spelled_by tree.now) }
-{
-    match tree.head {
-        Head::Path => path(alloc, tree.parts.as_slice()),
-        _ => tree.text.copy(alloc),
-    }
-}
 
 /// The module type that a path names.
 ///
@@ -91,37 +81,9 @@ fn refuse_parameters(params: &[Param], place: Place) -> Result<(), Refused>
     }
 }
 
-/// Whether one of these parameters has this name.
-fn is_parameter(params: &[Param], name: &Name) -> bool
-    ensures { result ≡ list_any (λ q. bytes_eq q.name name.now) params.now }
-{
-    for q in params {
-        if q.name == *name {
-            return true;
-        }
-    }
-    false
-}
-
-/// Refuses the name of a parameter that one before it or a declared module has.
-fn refuse_parameter(
-    alloc: Global,
-    scope: &Scope,
-    params: &[Param],
-    name: &Node,
-) -> Result<(), Refused>
-    ensures { Answers (parameter_name scope.now params.now name.now) result }
-{
-    if is_parameter(params, &name.text) {
-        Err(double(alloc, &name.text, name.place))
-    } else {
-        refuse_module(alloc, scope, name)
-    }
-}
-
 /// A parameter of this name and of the module type that this path names.
-fn param(alloc: Global, name: &Node, ty: &Node) -> Result<Param, AllocError>
-    ensures { IfOk result (λ q. q ≡ record { name = text_of name.now; ty = spelled_by ty.now }) }
+pub fn param(alloc: Global, name: &Node, ty: &Node) -> Result<Param, AllocError>
+    ensures { IfOk result (λ q. q ≡ param name.now ty.now) }
 {
     let name = name.text.copy(alloc)?;
     let ty = spelled(alloc, ty)?;
@@ -162,7 +124,7 @@ fn declare_parameter(
     match head {
         Head::ModuleParameter => match parts {
             [name, ty] => {
-                refuse_parameter(alloc, scope, params.as_slice(), name)?;
+                refuse_parameter(alloc, scope, None, params.as_slice(), name)?;
                 let asked = module_type_at(alloc, scope, ty)?;
                 refuse_parameters(asked.params.as_slice(), ty.place)?;
                 params.push(param(alloc, name, ty)?)?;
@@ -174,35 +136,13 @@ fn declare_parameter(
     }
 }
 
-/// The procedures of a module type, if there is one.
-fn signatures_in(found: Option<&ModuleType>) -> &[Signature]
-    ensures { result.now ≡ signatures_in (option_copied found.entry) }
-{
-    match found {
-        None => &[],
-        Some(ty) => ty.signatures.as_slice(),
-    }
-}
-
 /// The procedures of the parameter of this name.
-fn signatures_of<'a>(scope: &'a Scope, params: &[Param], name: &Name) -> Option<&'a [Signature]>
-    ensures { option_copied result ≡ signatures_of scope.now params.now name.now }
+fn signatures_named<'a>(scope: &'a Scope, params: &[Param], name: &Name) -> Option<&'a [Signature]>
+    ensures { option_copied result ≡ signatures_named scope.now params.now name.now }
 {
     for q in params {
         if q.name == *name {
-            return Some(signatures_in(scope.module_type(&q.ty)));
-        }
-    }
-    None
-}
-
-/// The procedure of this name.
-fn signature_named<'a>(signatures: &'a [Signature], name: &Name) -> Option<&'a Signature>
-    ensures { option_copied result ≡ signature_of signatures.now name.now }
-{
-    for s in signatures {
-        if s.name == *name {
-            return Some(s);
+            return Some(signatures_of(scope.module_type(&q.ty)));
         }
     }
     None
@@ -238,7 +178,7 @@ fn oracle(
 {
     match head {
         Head::Oracle => match parts {
-            [parameter, name] => match signatures_of(scope, params, &parameter.text) {
+            [parameter, name] => match signatures_named(scope, params, &parameter.text) {
                 None => Err(unknown(alloc, &parameter.text, parameter.place)),
                 Some(signatures) => oracle_among(alloc, signatures, parameter, name),
             },

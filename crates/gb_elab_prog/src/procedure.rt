@@ -111,11 +111,11 @@ fn with_result(
     })
 }
 
-fn is_procedure(procs: &[Proc], name: &Name) -> bool
+fn is_procedure(procs: &[Shared<Proc>], name: &Name) -> bool
     ensures { result ≡ list_any (λ p. bytes_eq p.name name.now) procs.now }
 {
     for p in procs {
-        if p.name == *name {
+        if p.get().name == *name {
             return true;
         }
     }

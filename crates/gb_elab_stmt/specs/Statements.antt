@@ -58,10 +58,10 @@ words ps = take (pred (length ps)) ps
 abbrev pub written : List Node → List Node
 written ps = drop (pred (length ps)) ps
 
--- a call whose result these variables take, by its head and its parts; that of a module with arguments isn't built yet
+-- a call whose result these variables take, by its head and its parts
 abbrev pub result_to : Environment → List Target → Head → List Node → Place → Answer Instr
-result_to at vs head.Call (x ∷ ps) p = call at vs x (words ps) (written ps) p
-result_to at vs _ ps p = not_built p
+result_to at vs h (x ∷ ps) p = call at vs h x ps p
+result_to at vs h [] p = not_built p
 
 -- .. of which the call is the last part
 abbrev pub called_to : Environment → List Target → List Node → Place → Answer Instr
@@ -108,7 +108,8 @@ instruction at head.Sample x ps p = sampling at (dotted (text_of x) (words ps)) 
 instruction at head.Assign x ps p = assignment at (dotted (text_of x) (words ps)) (written ps) p
 instruction at head.Store x ps p = stored at (dotted (text_of x) (take (pred (pred (length ps))) ps)) (drop (pred (pred (length ps))) ps) p
 instruction at head.AssignCall x ps p = result_in at (dotted (text_of x) (words ps)) (written ps) p
-instruction at head.Call x ps p = call at [] x (words ps) (written ps) p
+instruction at head.Call x ps p = call at [] head.Call x ps p
+instruction at head.FunctorCall x ps p = call at [] head.FunctorCall x ps p
 instruction at head.TupleStatement ts (w ∷ []) p = written_to at (parts_of ts) (head_of w) (parts_of w) p
 instruction at _ x ps p = not_built p
 

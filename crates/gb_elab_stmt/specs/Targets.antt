@@ -6,23 +6,14 @@ use Rattle.gb_core.specs.declared.ty.Ty.{Ty}
 use Rattle.gb_core.specs.declared.ty.Ty.TheVariants.{Tuple}
 use Rattle.gb_core.specs.declared.var.Var.{Var}
 use Rattle.gb_terms.specs.Equal.{var_eq}
-use Rattle.gb_script.specs.declared.head.Head.{Head}
-use Rattle.gb_script.specs.declared.head.Head.TheVariants as head
 use Rattle.gb_script.specs.declared.tree.Node.{Node}
-use Rattle.gb_script.specs.Tree.{head_of, text_of, parts_of, place_of}
+use Rattle.gb_script.specs.Tree.{place_of}
 use Rattle.gb_goal.specs.Answers.{Answer, ◌>>=◌}
 use Rattle.gb_goal.specs.Answers.Answer.{given, refused}
-use Rattle.gb_names.specs.Environment.{Name, Environment}
+use Rattle.gb_names.specs.Environment.{Environment}
 use Rattle.gb_names.specs.declared.globals.Target.{Target as Held}
-use Rattle.gb_names.specs.Names.{Target, path, target}
-
--- the name that a path of one word or of several spells
-abbrev pub spelled : Head → Name → List Node → Name
-spelled head.Path x ps = path ps
-spelled h x ps = x
-
-abbrev pub spelled_by : Node → Name
-spelled_by t = spelled (head_of t) (text_of t) (parts_of t)
+use Rattle.gb_names.specs.Names.{Target, target}
+pub use Rattle.gb_names.specs.Names.{spelled, spelled_by}
 
 -- A tuple has at most 8 parts.
 abbrev pub roomy : List Target → Node → Answer (Unit {0})

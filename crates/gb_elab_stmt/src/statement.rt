@@ -134,16 +134,9 @@ fn result_to(
 ) -> Result<Instr, Refused>
     ensures { Answers (result_to (environment at.now) (pairs targets.now) head parts.now place) result }
 {
-    match head {
-        Head::Call => match parts {
-            [first, rest @ ..] => {
-                let last = rest.len().saturating_sub(1);
-                let (words, args) = (&rest[..last], &rest[last..]);
-                call(alloc, at, targets, first, words, args, place)
-            }
-            [] => Err(not_built(place)),
-        },
-        _ => Err(not_built(place)),
+    match parts {
+        [first, rest @ ..] => call(alloc, at, targets, head, first, rest, place),
+        [] => Err(not_built(place)),
     }
 }
 
@@ -307,7 +300,7 @@ fn instruction(
             stored(alloc, at, &map, &rest[second..], place)
         }
         Head::AssignCall => result_in(alloc, at, &path_from(alloc, first, words)?, written, place),
-        Head::Call => call(alloc, at, &[], first, words, written, place),
+        Head::Call | Head::FunctorCall => call(alloc, at, &[], head, first, rest, place),
         Head::TupleStatement => match rest {
             [what] => {
                 let (paths, parts) = (first.parts.as_slice(), what.parts.as_slice());

@@ -5,36 +5,24 @@ ghost use Rattle.std.specs.List.{list_any};
 ghost use Rattle.gb_terms.specs.Equal.{var_eq};
 ghost use Rattle.gb_goal.specs.Answers.{Answers, Gives};
 ghost use Rattle.gb_names.specs.Environment.{environment};
-ghost use Rattle.gb_elab_stmt.specs.Targets.{next_target, once, pairs, roomy, spelled_by, targets, type_of_all, variables_of};
+ghost use Rattle.gb_elab_stmt.specs.Targets.{next_target, once, pairs, roomy, targets, type_of_all, variables_of};
 
 use gb_core::copy::{copy_ty, copy_var};
-use gb_core::name::Name;
 use gb_core::refusal::Refused;
 use gb_core::same::same_var;
 use gb_core::ty::Ty;
 use gb_core::var::Var;
 use gb_core::{Shared, SharedItems};
 use gb_names::globals::Target;
-use gb_names::names::{path, target};
+use gb_names::names::{spelled, target};
 use gb_names::refusals::{argument, double};
 use gb_names::setting::Setting;
-use gb_script::head::Head;
 use gb_script::tree::Node;
 use sqlite_items::Items;
 use std::alloc::{AllocError, Global};
 
 /// The most parts of a tuple.
 const PARTS: usize = 8;
-
-/// The name that a path of one word or of several spells.
-fn spelled(alloc: Global, tree: &Node) -> Result<Name, AllocError>
-    ensures { IfOk result (λ made. made ≡ spelled_by tree.now) }
-{
-    match tree.head {
-        Head::Path => path(alloc, tree.parts.as_slice()),
-        _ => tree.text.copy(alloc),
-    }
-}
 
 #[tactic(auto, using(gb_terms::proofs::Equality::var_test))]
 fn is_written(targets: &[Target], var: &Var) -> bool

@@ -1,13 +1,17 @@
 -- Things in order of declaration, step by step.
-use Rattle.std.proofs.Common.{◌≡◌, ◌↔◌, IsTrue, ℕ, zero, suc, ◌+◌, ◌-◌, ◌<◌, Bool, false, ◌||◌, if◌then◌else◌, bytes_eq, get_or, List, [], ◌∷◌, length, take, drop, Option, Some, None, refl, ap, sym, ◌∙◌, arith}
+use Rattle.std.proofs.Common.{◌≡◌, ◌↔◌, IsTrue, ℕ, zero, suc, ◌+◌, ◌-◌, ◌<◌, Bool, false, ◌||◌, if◌then◌else◌, bytes_eq, get_or, List, [], ◌∷◌, ◌++◌, length, take, drop, Option, Some, None, refl, ap, sym, ◌∙◌, arith}
 use Rattle.std.proofs.lemmas.Bool.Decides.{same_from_decides}
 use Rattle.std.proofs.lemmas.List.{at_drop_more}
 use Rattle.std.proofs.lemmas.Slice.Eq.{bytes_eq-Decides}
 use Rattle.gb_goal.specs.Scope.{Declarations, entry_at}
 use Rattle.gb_goal.specs.declared.scope.ProcName.{ProcName}
 use Rattle.gb_ended.specs.Loops.{first}
-use Rattle.gb_ended.specs.Named.{all_named, is_one, with_named}
-use Rattle.gb_ended.specs.Ended.{first_at, first_of, other}
+use Rattle.gb_ended.specs.Named.{all_named, all_names_in, is_one, names_in, other, row_names, with_named}
+use Rattle.gb_terms.specs.declared.module.Mexp.{Mexp, Row_of-Mexp, end_of-Mexp, more_of-Mexp, items-the_row-Mexp, items_hidden-the_row-Mexp-0}
+use Rattle.gb_terms.specs.declared.module.Mexp.TheBlock as M
+use Rattle.gb_terms.specs.declared.module.Mexp.TheVariants.{Apply}
+use mathlib.Core.Former.{Count}
+use Rattle.gb_ended.specs.Ended.{first_at, first_of}
 
 named_at : (ds : Declarations) (i : ℕ) (ns : List (List ℕ)) → all_named (take (suc i) ds) ns ≡ all_named (take i ds) (with_named (entry_at ds i) ns)
 named_at [] zero ns = refl
@@ -53,3 +57,11 @@ other_same m n e = ap (λ b. if b then [] else n ∷ []) ((bytes_eq-Decides m n)
 
 pub other_new : (m n : List ℕ) (b : Bool) → IsTrue b ↔ (m ≡ n) → b ≡ false → other m n ≡ n ∷ []
 other_new m n b t f = ap (λ c. if c then [] else n ∷ []) (sym (name_test b m n t) ∙ f)
+
+names_row : {n : Count} (r : Row_of-Mexp n) → row_names r ≡ all_names_in (items-the_row-Mexp _ r)
+names_row end_of-Mexp = refl
+names_row (more_of-Mexp m r) = ap (λ ns. names_in m ++ ns) (names_row r)
+
+-- the names in a functor with arguments
+pub names_applied : (n : List ℕ) (es : List Mexp) → names_in (Apply n es) ≡ n ∷ all_names_in es
+names_applied n es = ap (λ ns. n ∷ ns) (names_row (M.hidden-the_row-Mexp-0 es) ∙ ap all_names_in (items_hidden-the_row-Mexp-0 es))

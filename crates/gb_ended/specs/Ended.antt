@@ -1,5 +1,5 @@
 -- Modules that are ended: each procedure that has a loop is proved, and each module that they name is ended.
-use Rattle.std.specs.Prelude.{ℕ, if◌then◌else◌, List, [], ◌∷◌, ◌++◌, Option, Some, None, bytes_eq}
+use Rattle.std.specs.Prelude.{ℕ, if◌then◌else◌, List, [], ◌∷◌, Option, Some, None}
 use Rattle.gb_terms.specs.declared.decl.Module.{Module}
 use Rattle.gb_terms.specs.declared.decl.Proc.{Proc}
 use Rattle.gb_goal.specs.Scope.{Declarations, module_of, proc_of}
@@ -7,7 +7,7 @@ use Rattle.gb_goal.specs.declared.scope.Entry.{Entry}
 use Rattle.gb_goal.specs.declared.scope.Entry.TheVariants as entry
 use Rattle.gb_goal.specs.declared.scope.ProcName.{ProcName}
 use Rattle.gb_ended.specs.Loops.{first, unproved}
-use Rattle.gb_ended.specs.Named.{all_named, is_one, named_by}
+use Rattle.gb_ended.specs.Named.{all_named, is_one, named_by, others}
 
 -- the first procedure of a module, in order, that has a loop and isn't proved
 abbrev pub first_among : Declarations → List ℕ → List Proc → Option ProcName
@@ -37,14 +37,6 @@ procedure_in (Some m) f = proc_of m.procs f
 abbrev pub named_if : Option Proc → List (List ℕ)
 named_if None = []
 named_if (Some f) = named_by f
-
-abbrev pub other : List ℕ → List ℕ → List (List ℕ)
-other m n = if bytes_eq m n then [] else n ∷ []
-
--- the names other than one
-abbrev pub others : List ℕ → List (List ℕ) → List (List ℕ)
-others m [] = []
-others m (n ∷ ns) = other m n ++ others m ns
 
 -- The same of the modules that a procedure names itself, other than its own.
 abbrev pub first_unproved_in : Declarations → ProcName → Option ProcName

@@ -1,14 +1,13 @@
 -- Which procedures have loops that aren't proved.
 use Rattle.std.specs.Prelude.{ℕ, Bool, true, false, not, ◌&&◌, ◌||◌, if◌then◌else◌, List, [], ◌∷◌, Option, Some, None}
 use Rattle.gb_terms.specs.declared.decl.Proc.{Proc}
-use Rattle.gb_terms.specs.declared.module.Mexp.{Mexp}
-use Rattle.gb_terms.specs.declared.module.Mexp.TheVariants.{Name}
 use Rattle.gb_terms.specs.declared.module.ProcRef.{ProcRef}
 use Rattle.gb_terms.specs.declared.term.Head.TheVariants.{If', While'}
 use Rattle.gb_terms.specs.declared.term.Instr.{Instr, Row_of-Instr, end_of-Instr, more_of-Instr}
 use Rattle.gb_goal.specs.Goal.{Code, Goal}
 use Rattle.gb_goal.specs.Goal.Code.{body, procedure}
 use Rattle.gb_goal.specs.Goal.Goal.{hoare, phoare, equiv, ambient}
+use Rattle.gb_goal.specs.Instances.{name_of}
 use Rattle.gb_goal.specs.Scope.{Declarations, is_proved, procedure_of}
 use Rattle.gb_goal.specs.declared.scope.ProcName.{ProcName}
 
@@ -39,13 +38,9 @@ abbrev pub unproved_if : Declarations → List ℕ → Option Proc → Option Pr
 unproved_if ds m None = None
 unproved_if ds m (Some f) = unproved ds m f
 
-abbrev pub unproved_at : Declarations → Mexp → Option Proc → Option ProcName
-unproved_at ds (Name m) f = unproved_if ds m f
-unproved_at ds _ f = None
-
--- the same of a declared procedure that is named by its module's name
+-- The same of the procedure that a reference means. That of a module with arguments goes by the module's name, whatever these are.
 abbrev pub unproved_of : Declarations → ProcRef → Option ProcName
-unproved_of ds p = unproved_at ds p.module (procedure_of ds p)
+unproved_of ds p = unproved_if ds (name_of p.module) (procedure_of ds p)
 
 -- the first one that is there
 abbrev pub first : Option ProcName → Option ProcName → Option ProcName

@@ -2,8 +2,10 @@
 use Rattle.std.specs.Prelude.{ℕ, Bool, false, ◌||◌, if◌then◌else◌, List, [], ◌∷◌, ◌++◌, Option, Some, None, bytes_eq}
 use Rattle.gb_core.specs.declared.var.Var.{Var}
 use Rattle.gb_core.specs.declared.var.Var.TheVariants as var
+use Rattle.gb_terms.specs.declared.decl.Module.{Module}
+use Rattle.gb_terms.specs.declared.decl.Param.{Param}
 use Rattle.gb_terms.specs.declared.decl.Proc.{Proc}
-use Rattle.gb_terms.specs.declared.module.Mexp.{Mexp}
+use Rattle.gb_terms.specs.declared.module.Mexp.{Mexp, Row_of-Mexp, end_of-Mexp, more_of-Mexp}
 use Rattle.gb_terms.specs.declared.module.Mexp.TheVariants.{Name, Apply'}
 use Rattle.gb_terms.specs.declared.module.ProcRef.{ProcRef}
 use Rattle.gb_goal.specs.Scope.{Declarations}
@@ -12,14 +14,25 @@ use Rattle.gb_goal.specs.declared.scope.Entry.TheVariants as entry
 use Rattle.gb_mods.specs.Called.{calls}
 use Rattle.gb_mods.specs.Touched.{touched_itself}
 
-abbrev pub name_of : Mexp → List ℕ
-name_of (Name m) = m
-name_of (Apply' m n args) = m
+abbrev mutual
+  -- the modules that a module expression names
+  pub names_in : Mexp → List (List ℕ)
+  names_in (Name m) = m ∷ []
+  names_in (Apply' m n args) = m ∷ row_names args
 
--- the modules of procedures
+  pub row_names : {n : _} → Row_of-Mexp n → List (List ℕ)
+  row_names end_of-Mexp = []
+  row_names (more_of-Mexp m r) = names_in m ++ row_names r
+
+-- .. that module expressions name
+abbrev pub all_names_in : List Mexp → List (List ℕ)
+all_names_in [] = []
+all_names_in (m ∷ ms) = names_in m ++ all_names_in ms
+
+-- .. of procedures
 abbrev pub modules_of : List ProcRef → List (List ℕ)
 modules_of [] = []
-modules_of (p ∷ ps) = name_of p.module ∷ modules_of ps
+modules_of (p ∷ ps) = names_in p.module ++ modules_of ps
 
 abbrev pub owner : Var → List (List ℕ)
 owner (var.Global m x) = m ∷ []
@@ -40,6 +53,23 @@ abbrev pub named_in : List Proc → List (List ℕ)
 named_in [] = []
 named_in (f ∷ fs) = named_by f ++ named_in fs
 
+abbrev pub other : List ℕ → List ℕ → List (List ℕ)
+other m n = if bytes_eq m n then [] else n ∷ []
+
+-- the names other than one
+abbrev pub others : List ℕ → List (List ℕ) → List (List ℕ)
+others m [] = []
+others m (n ∷ ns) = other m n ++ others m ns
+
+-- The names other than those of parameters. A module that is declared behind a functor may have the name of one of its parameters.
+abbrev pub free_of : List Param → List (List ℕ) → List (List ℕ)
+free_of [] ns = ns
+free_of (q ∷ qs) ns = free_of qs (others q.name ns)
+
+-- the modules that a module names itself
+abbrev pub named_from : Module → List (List ℕ)
+named_from m = free_of m.params (named_in m.procs)
+
 -- one of these names
 abbrev pub is_one : List (List ℕ) → List ℕ → Bool
 is_one [] n = false
@@ -47,7 +77,7 @@ is_one (m ∷ ms) n = bytes_eq n m || is_one ms n
 
 -- these names, and those that a thing names, where it is a module that has one of these names
 abbrev pub with_named : Option Entry → List (List ℕ) → List (List ℕ)
-with_named (Some (entry.Module m)) ns = if is_one ns m.name then ns ++ named_in m.procs else ns
+with_named (Some (entry.Module m)) ns = if is_one ns m.name then ns ++ named_from m else ns
 with_named _ ns = ns
 
 -- These names, and those of all modules that modules of these names name, through every module. A module names itself and modules

@@ -1,13 +1,13 @@
 //! Modules that are ended: each procedure that has a loop is proved, and each module that they name is ended.
 
-ghost use Rattle.std.specs.Prelude.{◌≡◌, ◌++◌, IfOk};
+ghost use Rattle.std.specs.Prelude.{◌≡◌, IfOk};
 ghost use Rattle.std.specs.Option.{option_copied};
-ghost use Rattle.gb_ended.specs.Ended.{first_among, first_at, first_of, first_unproved, first_unproved_in, named_if, other, others, procedure_in};
+ghost use Rattle.gb_ended.specs.Ended.{first_among, first_at, first_of, first_unproved, first_unproved_in, named_if, procedure_in};
 
 use crate::loops::unproved;
-use crate::named::{all_named, is_one, named_by};
+use crate::named::{all_named, is_one, named_by, others};
+use gb_core::Shared;
 use gb_core::name::{Name, Names};
-use gb_core::same::same_name;
 use gb_goal::scope::{Entry, ProcName, Scope, procedure_named};
 use gb_terms::decl::{Module, Proc};
 use sqlite_items::Items;
@@ -18,12 +18,12 @@ fn first_among(
     alloc: Global,
     scope: &Scope,
     module: &Name,
-    list: &[Proc],
+    list: &[Shared<Proc>],
 ) -> Result<Option<ProcName>, AllocError>
     ensures { IfOk result (λ found. found ≡ first_among scope.now «module».now list.now) }
 {
     for procedure in list {
-        if let Some(found) = unproved(alloc, scope, module, procedure)? {
+        if let Some(found) = unproved(alloc, scope, module, procedure.get())? {
             return Ok(Some(found));
         }
     }
@@ -75,7 +75,7 @@ pub fn first_unproved(
 }
 
 /// The procedure of this name in a module.
-fn procedure_in<'a>(found: Option<&'a Module>, name: &Name) -> Option<&'a Proc>
+fn procedure_in<'a>(found: Option<&'a Module>, name: &Name) -> Option<&'a Shared<Proc>>
     ensures { option_copied result ≡ procedure_in (option_copied found.entry) name.now }
 {
     match found {
@@ -85,36 +85,13 @@ fn procedure_in<'a>(found: Option<&'a Module>, name: &Name) -> Option<&'a Proc>
 }
 
 /// The modules that a procedure names itself.
-fn named_if(alloc: Global, found: Option<&Proc>) -> Result<Names, AllocError>
+fn named_if(alloc: Global, found: Option<&Shared<Proc>>) -> Result<Names, AllocError>
     ensures { IfOk result (λ made. made ≡ named_if (option_copied found.entry)) }
 {
     match found {
-        Some(procedure) => named_by(alloc, Items::new(alloc), procedure),
+        Some(procedure) => named_by(alloc, Items::new(alloc), procedure.get()),
         None => Ok(Items::new(alloc)),
     }
-}
-
-/// Names behind others: a name that isn't another one.
-fn other(alloc: Global, found: Names, own: &Name, name: &Name) -> Result<Names, AllocError>
-    ensures { IfOk result (λ made. made ≡ found ++ other own.now name.now) }
-{
-    if same_name(own, name) {
-        return Ok(found);
-    }
-    let mut all = found;
-    all.push(name.copy(alloc)?)?;
-    Ok(all)
-}
-
-/// The names other than one.
-fn others(alloc: Global, own: &Name, names: &[Name]) -> Result<Names, AllocError>
-    ensures { IfOk result (λ made. made ≡ others own.now names.now) }
-{
-    let mut all = Items::new(alloc);
-    for name in names {
-        all = other(alloc, all, own, name)?;
-    }
-    Ok(all)
 }
 
 /// The same of the modules that a procedure names itself, other than its own.

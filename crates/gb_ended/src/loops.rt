@@ -1,15 +1,15 @@
 //! Which procedures have loops that aren't proved.
 
 ghost use Rattle.std.specs.Prelude.{◌≡◌, IfOk};
-ghost use Rattle.std.specs.Option.{option_copied};
 ghost use Rattle.gb_goal.specs.Views.{code_seen, goal_seen};
-ghost use Rattle.gb_ended.specs.Loops.{has_loop, loops, named, unproved, unproved_code, unproved_if, unproved_in, unproved_of};
+ghost use Rattle.gb_ended.specs.Loops.{has_loop, loops, named, unproved, unproved_code, unproved_in, unproved_of};
 
 use gb_core::name::Name;
 use gb_goal::goal::{Code, Goal};
+use gb_goal::instance::name_of;
 use gb_goal::scope::{ProcName, Scope};
 use gb_terms::decl::Proc;
-use gb_terms::module::{Mexp, ProcRef};
+use gb_terms::module::ProcRef;
 use gb_terms::term::Instr;
 use std::alloc::{AllocError, Global};
 
@@ -67,21 +67,7 @@ pub fn unproved(
     Ok(Some(named))
 }
 
-fn unproved_if(
-    alloc: Global,
-    scope: &Scope,
-    module: &Name,
-    found: Option<&Proc>,
-) -> Result<Option<ProcName>, AllocError>
-    ensures { IfOk result (λ made. made ≡ unproved_if scope.now «module».now (option_copied found.entry)) }
-{
-    match found {
-        Some(procedure) => unproved(alloc, scope, module, procedure),
-        None => Ok(None),
-    }
-}
-
-/// The same of a declared procedure that is named by its module's name.
+/// The same of the procedure that a reference means. That of a module with arguments goes by the module's name, whatever these are.
 pub fn unproved_of(
     alloc: Global,
     scope: &Scope,
@@ -89,10 +75,9 @@ pub fn unproved_of(
 ) -> Result<Option<ProcName>, AllocError>
     ensures { IfOk result (λ found. found ≡ unproved_of scope.now reference.now) }
 {
-    let found = scope.procedure(reference);
-    match &reference.module {
-        Mexp::Name(module) => unproved_if(alloc, scope, module, found),
-        Mexp::Apply(..) => Ok(None),
+    match scope.procedure(alloc, reference)? {
+        Some(procedure) => unproved(alloc, scope, name_of(&reference.module), procedure.get()),
+        None => Ok(None),
     }
 }
 

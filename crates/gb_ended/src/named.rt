@@ -2,7 +2,7 @@
 
 ghost use Rattle.std.specs.Prelude.{◌≡◌, ◌++◌, IfOk};
 ghost use Rattle.std.specs.Option.{option_copied};
-ghost use Rattle.gb_ended.specs.Named.{all_named, is_one, modules_of, name_of, named_by, named_in, owner, owners, with_named};
+ghost use Rattle.gb_ended.specs.Named.{all_named, all_names_in, free_of, is_one, modules_of, named_by, named_from, named_in, names_in, other, others, owner, owners, with_named};
 
 use gb_core::Shared;
 use gb_core::name::{Name, Names};
@@ -11,18 +11,39 @@ use gb_core::var::Var;
 use gb_goal::scope::{Entry, Scope};
 use gb_mods::called::calls;
 use gb_mods::touched::touched_itself;
-use gb_terms::decl::Proc;
+use gb_terms::decl::{Module, Param, Proc};
 use gb_terms::module::{Mexp, ProcRef};
 use sqlite_items::Items;
 use std::alloc::{AllocError, Global};
 
-fn name_of(module: &Mexp) -> &Name
-    ensures { result.now ≡ name_of «module».now }
+/// Names behind others: those of the modules in a module expression.
+#[cycle(names_in)]
+fn names_in(alloc: Global, found: Names, module: &Mexp) -> Result<Names, AllocError>
+    ensures { IfOk result (λ made. made ≡ found ++ names_in «module».now) }
 {
+    let mut all = found;
     match module {
-        Mexp::Name(name) => name,
-        Mexp::Apply(name, _) => name,
+        Mexp::Name(name) => {
+            all.push(name.copy(alloc)?)?;
+            Ok(all)
+        }
+        Mexp::Apply(name, args) => {
+            all.push(name.copy(alloc)?)?;
+            all_names_in(alloc, all, args.as_slice())
+        }
     }
+}
+
+/// The same of several module expressions.
+#[cycle(names_in)]
+fn all_names_in(alloc: Global, found: Names, list: &[Mexp]) -> Result<Names, AllocError>
+    ensures { IfOk result (λ made. made ≡ found ++ all_names_in list.now) }
+{
+    let mut all = found;
+    for m in list {
+        all = names_in(alloc, all, m)?;
+    }
+    Ok(all)
 }
 
 /// Names behind others: those of the modules of procedures.
@@ -31,7 +52,7 @@ fn modules_of(alloc: Global, found: Names, list: &[Shared<ProcRef>]) -> Result<N
 {
     let mut all = found;
     for x in list {
-        all.push(name_of(&x.get().module).copy(alloc)?)?;
+        all = names_in(alloc, all, &x.get().module)?;
     }
     Ok(all)
 }
@@ -71,13 +92,58 @@ pub fn named_by(alloc: Global, found: Names, procedure: &Proc) -> Result<Names, 
 }
 
 /// The same of several procedures.
-fn named_in(alloc: Global, found: Names, list: &[Proc]) -> Result<Names, AllocError>
+fn named_in(alloc: Global, found: Names, list: &[Shared<Proc>]) -> Result<Names, AllocError>
     ensures { IfOk result (λ made. made ≡ found ++ named_in list.now) }
 {
     let mut all = found;
     for procedure in list {
-        all = named_by(alloc, all, procedure)?;
+        all = named_by(alloc, all, procedure.get())?;
     }
+    Ok(all)
+}
+
+/// Names behind others: a name that isn't another one.
+fn other(alloc: Global, found: Names, own: &Name, name: &Name) -> Result<Names, AllocError>
+    ensures { IfOk result (λ made. made ≡ found ++ other own.now name.now) }
+{
+    if same_name(own, name) {
+        return Ok(found);
+    }
+    let mut all = found;
+    all.push(name.copy(alloc)?)?;
+    Ok(all)
+}
+
+/// The names other than one.
+pub fn others(alloc: Global, own: &Name, names: &[Name]) -> Result<Names, AllocError>
+    ensures { IfOk result (λ made. made ≡ others own.now names.now) }
+{
+    let mut all = Items::new(alloc);
+    for name in names {
+        all = other(alloc, all, own, name)?;
+    }
+    Ok(all)
+}
+
+/// The names other than those of parameters. A module that is declared behind a functor may have the name of one of its parameters.
+fn free_of(alloc: Global, params: &[Param], names: Names) -> Result<Names, AllocError>
+    ensures { IfOk result (λ made. made ≡ free_of params.now names) }
+{
+    let mut all = names;
+    for q in params {
+        all = others(alloc, &q.name, all.as_slice())?;
+    }
+    Ok(all)
+}
+
+/// Names behind others: those of the modules that a module names itself.
+fn named_from(alloc: Global, found: Names, module: &Module) -> Result<Names, AllocError>
+    ensures { IfOk result (λ made. made ≡ found ++ named_from «module».now) }
+{
+    let named = named_in(alloc, Items::new(alloc), module.procs.as_slice())?;
+    let free = free_of(alloc, module.params.as_slice(), named)?;
+    let mut all = found;
+    all.append(free)?;
     Ok(all)
 }
 
@@ -100,7 +166,7 @@ fn with_named(alloc: Global, found: Names, entry: Option<&Entry>) -> Result<Name
     match entry {
         Some(Entry::Module(module)) => {
             if is_one(found.as_slice(), &module.name) {
-                named_in(alloc, found, module.procs.as_slice())
+                named_from(alloc, found, module)
             } else {
                 Ok(found)
             }

@@ -1,5 +1,5 @@
 -- A body that loses no weight, nor what it calls, draws from full distributions alone.
-use Rattle.std.proofs.Common.{◌≡◌, ◌⊎◌, inl, inr, Bool, true, false, if◌then◌else◌, List, [], ◌∷◌, ◌++◌, Option, Some, None, refl, ap, sym, ◌∙◌, subst}
+use Rattle.std.proofs.Common.{◌≡◌, ℕ, zero, suc, length, Bool, true, false, if◌then◌else◌, List, [], ◌∷◌, Option, Some, None, refl, ap, sym, ◌∙◌, subst}
 use Rattle.std.proofs.lemmas.Bool.{false≢true}
 use Rattle.std.proofs.lemmas.Option.{same_Some}
 use Rattle.gb_core.specs.declared.var.Var.{Var}
@@ -38,9 +38,9 @@ use Rattle.gb_goal.specs.Scope.{Declarations, procedure_of}
 use Rattle.gb_goal.specs.declared.sequent.Sequent.{Sequent}
 use Rattle.gb_holds.specs.Declared.{declared}
 use Rattle.gb_goal.specs.Goal.Code.{procedure}
-use Rattle.gb_mods.specs.Called.{same_procedure}
+use Rattle.gb_mods.specs.Called.{all_reached, calls, same_procedure}
 use Rattle.gb_mods.proofs.Closed.{procedure_same}
-use Rattle.gb_full.specs.Loss.{operator_loses, full_operators, loses_by, may_lose, Loss, nowhere, sampled, called, or_after, Losses, known_of, statement_loss, row_loss, body_loss, procedure_loss, with_procedures, all_procedures, table, first_loss, code_loss}
+use Rattle.gb_full.specs.Loss.{operator_loses, full_operators, loses_by, may_lose, Loss, nowhere, sampled, called, or_after, Losses, Reached, known_of, row_loss, body_loss, procedure_loss, round, rounds, losses, declared_each, declared_if, table, first_loss, code_loss}
 use Rattle.gb_full.proofs.Operators.{AreFullOperators, names_full, scope_full, unrestricted}
 use mathlib.Core.Former.{Count}
 
@@ -55,84 +55,39 @@ both_nowhere nowhere l e = (refl, e)
 both_nowhere (sampled x) l e = absurd (false≢true (ap is_nowhere e))
 both_nowhere called l e = absurd (false≢true (ap is_nowhere e))
 
-joined : {k l : Loss} → k ≡ nowhere → l ≡ nowhere → or_after k l ≡ nowhere
-joined e f = λ i. or_after (e i) (f i)
+-- Procedures that are known to lose no weight, by what is known of those that they call, where these operators are full.
+module _ (ds : Declarations) where
+  -- each stands with what it is
+  abbrev AreDeclared : Reached → Type 0
+  AreDeclared [] = Unit {0}
+  AreDeclared (f ∷ fs) = (procedure_of ds f.0 ≡ f.1) × AreDeclared fs
 
--- What is known of procedures stays so where more are known.
-
-known_more : (ks ls : Losses) (p : ProcRef) → known_of ks p ≡ nowhere → known_of (ks ++ ls) p ≡ nowhere
-known_more [] ls p e = absurd (false≢true (ap is_nowhere e))
-known_more ((q, l) ∷ ks) ls p e = step (same_procedure q p) e (known_more ks ls p)
-  where
-    step : (b : Bool) → (if b then l else known_of ks p) ≡ nowhere → (known_of ks p ≡ nowhere → known_of (ks ++ ls) p ≡ nowhere) → (if b then l else known_of (ks ++ ls) p) ≡ nowhere
-    step true f go = f
-    step false f go = go f
-
-module _ (ds : Declarations) (ns : List Name) (ks ls : Losses) where
-  mutual
-    statement_more : (i : Instr) → statement_loss ds ns ks i ≡ nowhere → statement_loss ds ns (ks ++ ls) i ≡ nowhere
-    statement_more (Assign xs t) e = e
-    statement_more (Sample x d) e = e
-    statement_more (Call' xs p n es) e = known_more ks ls p e
-    statement_more (If' t m a n b) e = let k = both_nowhere (row_loss ds ns ks a) (row_loss ds ns ks b) e in joined (row_more a k.0) (row_more b k.1)
-    statement_more (While' t v n a) e = row_more a e
-
-    row_more : {n : Count} (is : Row_of-Instr n) → row_loss ds ns ks is ≡ nowhere → row_loss ds ns (ks ++ ls) is ≡ nowhere
-    row_more end_of-Instr e = e
-    row_more (more_of-Instr i is) e = let k = both_nowhere (statement_loss ds ns ks i) (row_loss ds ns ks is) e in joined (statement_more i k.0) (row_more is k.1)
-
-  body_more : (is : List Instr) → body_loss ds ns ks is ≡ nowhere → body_loss ds ns (ks ++ ls) is ≡ nowhere
-  body_more [] e = e
-  body_more (i ∷ is) e = let k = both_nowhere (statement_loss ds ns ks i) (body_loss ds ns ks is) e in joined (statement_more i k.0) (body_more is k.1)
-
--- Procedures of the declarations that are known to lose no weight, where these operators are full.
 module _ (ds : Declarations) (ns : List Name) where
   record IsKnown (ks : Losses) (p : ProcRef) : Type 0 where
     found : Proc
     declared : procedure_of ds p ≡ Some found
     full : body_loss ds ns ks found.body.list ≡ nowhere
 
-  abbrev AreKnown : Losses → Type 0
-  AreKnown ks = (p : ProcRef) → known_of ks p ≡ nowhere → IsKnown ks p
+  known_by : (ks : Losses) (q : ProcRef) (o : Option Proc) → procedure_of ds q ≡ o → procedure_loss ds ns ks o ≡ nowhere → IsKnown ks q
+  known_by ks q None d e = absurd (false≢true (ap is_nowhere e))
+  known_by ks q (Some a) d e = record { found = a; declared = d; full = e }
 
-  -- one more, by those before it
-  known_last : (ks : Losses) (q p : ProcRef) (l : Loss) → known_of (ks ++ (q, l) ∷ []) p ≡ nowhere → (known_of ks p ≡ nowhere) ⊎ ((q ≡ p) × (l ≡ nowhere))
-  known_last [] q p l e = step (same_procedure q p) refl e
+  round_known : (ks : Losses) (fs : Reached) → AreDeclared ds fs → (p : ProcRef) → known_of (round ds ns ks fs) p ≡ nowhere → IsKnown ks p
+  round_known ks [] h p e = absurd (false≢true (ap is_nowhere e))
+  round_known ks (f ∷ fs) h p e = step (same_procedure f.0 p) refl e (round_known ks fs h.1 p)
     where
-      step : (b : Bool) → same_procedure q p ≡ b → (if b then l else called) ≡ nowhere → (called ≡ nowhere) ⊎ ((q ≡ p) × (l ≡ nowhere))
-      step true f k = inr (procedure_same q p f, k)
-      step false f k = absurd (false≢true (ap is_nowhere k))
-  known_last ((r, k) ∷ ks) q p l e = step (same_procedure r p) e (known_last ks q p l)
-    where
-      step : (b : Bool) → (if b then k else known_of (ks ++ (q, l) ∷ []) p) ≡ nowhere →
-          (known_of (ks ++ (q, l) ∷ []) p ≡ nowhere → (known_of ks p ≡ nowhere) ⊎ ((q ≡ p) × (l ≡ nowhere))) → ((if b then k else known_of ks p) ≡ nowhere) ⊎ ((q ≡ p) × (l ≡ nowhere))
-      step true f go = inl f
-      step false f go = go f
+      step : (b : Bool) → same_procedure f.0 p ≡ b → (if b then procedure_loss ds ns ks f.1 else known_of (round ds ns ks fs) p) ≡ nowhere →
+          (known_of (round ds ns ks fs) p ≡ nowhere → IsKnown ks p) → IsKnown ks p
+      step true g k go = subst (IsKnown ks) (procedure_same f.0 p g) (known_by ks f.0 f.1 h.0 k)
+      step false g k go = go k
 
-  more_known : (ks ls : Losses) (p : ProcRef) → IsKnown ks p → IsKnown (ks ++ ls) p
-  more_known ks ls p x = record { found = x.found; declared = x.declared; full = body_more ds ns ks ls x.found.body.list x.full }
+each_declared : (ds : Declarations) (ps : List ProcRef) → AreDeclared ds (declared_each ds ps)
+each_declared ds [] = tt
+each_declared ds (p ∷ ps) = (refl, each_declared ds ps)
 
-  abbrev next : Losses → ProcRef → Losses
-  next ks q = (q, procedure_loss ds ns ks (procedure_of ds q)) ∷ []
-
-  one_known : (ks : Losses) (q : ProcRef) → AreKnown ks → AreKnown (ks ++ next ks q)
-  one_known ks q h p e = by_place (known_last ks q p (procedure_loss ds ns ks (procedure_of ds q)) e)
-    where
-      by_found : (o : Option Proc) → procedure_of ds q ≡ o → procedure_loss ds ns ks o ≡ nowhere → IsKnown (ks ++ next ks q) q
-      by_found None d f = absurd (false≢true (ap is_nowhere f))
-      by_found (Some a) d f = more_known ks (next ks q) q (record { found = a; declared = d; full = f })
-
-      by_place : (known_of ks p ≡ nowhere) ⊎ ((q ≡ p) × (procedure_loss ds ns ks (procedure_of ds q) ≡ nowhere)) → IsKnown (ks ++ next ks q) p
-      by_place (inl f) = more_known ks (next ks q) p (h p f)
-      by_place (inr f) = subst (IsKnown (ks ++ next ks q)) f.0 (by_found (procedure_of ds q) refl f.1)
-
-  each_known : (ks : Losses) (ps : List ProcRef) → AreKnown ks → AreKnown (with_procedures ds ns ks ps)
-  each_known ks [] h = h
-  each_known ks (p ∷ ps) h = each_known (ks ++ next ks p) ps (one_known ks p h)
-
-  all_known : AreKnown (table ds ns)
-  unfolding table
-  all_known = each_known [] (all_procedures ds) (λ p e. absurd (false≢true (ap is_nowhere e)))
+all_declared : (ds : Declarations) (o : Option (List ProcRef)) → AreDeclared ds (declared_if ds o)
+all_declared ds None = tt
+all_declared ds (Some ps) = each_declared ds ps
 
 -- Where the operators of the context that may lose no weight give full distributions.
 module _ (ds : Declarations) (c : Context) (g : Setting) (fits : IsSettingOf c g) (operators : AreFullOperators ds g c) where
@@ -210,46 +165,52 @@ module _ (ds : Declarations) (c : Context) (g : Setting) (fits : IsSettingOf c g
   -- declared procedures are typed, and are those of the setting
   module _ (typed : (p : ProcRef) (a : Proc) → procedure_of ds p ≡ Some a → IsBody c (locals_of a) a.body.list)
       (linked : (p : ProcRef) (a : Proc) → procedure_of ds p ≡ Some a → g.procedure p ≡ Some (routine a.params a.locals (statements g a.body.list) a.value)) where
-    abbrev ks : Losses
-    ks = table ds full
-
-    abbrev body_of : Routine → Program
-    body_of (routine ps ls k v) = k
-
-    -- the body of a procedure, where the procedures lose none that it calls
-    declared_full : (p : ProcRef) → (x : IsKnown ds full ks p) → CallsGood ks (statements g x.found.body.list) → Full g (statements g x.found.body.list)
-    declared_full p x k = let w = typed p x.found x.declared in each_full ks (locals_of x.found) x.found.body.list w.statements x.full k
-
-    from_body : (r : Routine) → CallsGood ks (body_of r) → IsGood ks r
-    from_body r k p i e =
-        let x = all_known ds full p i in
-        let is : routine x.found.params x.found.locals (statements g x.found.body.list) x.found.value ≡ r =
-        same_Some (routine x.found.params x.found.locals (statements g x.found.body.list) x.found.value) r (sym (linked p x.found x.declared) ∙ e) in
-        subst (λ z. FullRoutine g z) is (declared_full p x (subst (λ z. CallsGood ks (body_of z)) (sym is) k))
-
-    mutual
-      all_good : (k : Program) → CallsGood ks k
-      all_good done = tt
-      all_good (assign xs e k) = all_good k
-      all_good (sample y d k) = all_good k
-      all_good (branch e a b k) = (all_good a, all_good b, all_good k)
-      all_good (loop e v a k) = (all_good a, all_good k)
-      all_good (call xs r es k) = (routine_good r, all_good k)
-      all_good (ask xs o es k) = all_good k
-
-      routine_good : (r : Routine) → IsGood ks r
-      routine_good (routine ps ls k v) = from_body (routine ps ls k v) (all_good k)
-
-    body_full : (ls : List TypedName) (is : List Instr) → IsBody c ls is → first_loss ds is ≡ nowhere → Full g (statements g is)
-    body_full ls is w e = each_full ks ls is w.statements e (all_good (statements g is))
-
     pub record IsFullProcedure (p : ProcRef) : Type 0 where
       pub found : Proc
       pub declared : procedure_of ds p ≡ Some found
       pub full : Full g (statements g found.body.list)
 
-    procedure_full : (p : ProcRef) → known_of ks p ≡ nowhere → IsFullProcedure p
-    procedure_full p e = let x = all_known ds full p e in record { found = x.found; declared = x.declared; full = declared_full p x (all_good (statements g x.found.body.list)) }
+    all_good : (ks : Losses) → ((r : Routine) → IsGood ks r) → (k : Program) → CallsGood ks k
+    all_good ks h done = tt
+    all_good ks h (assign xs e k) = all_good ks h k
+    all_good ks h (sample y d k) = all_good ks h k
+    all_good ks h (branch e a b k) = (all_good ks h a, all_good ks h b, all_good ks h k)
+    all_good ks h (loop e v a k) = (all_good ks h a, all_good ks h k)
+    all_good ks h (call xs r es k) = (h r, all_good ks h k)
+    all_good ks h (ask xs o es k) = all_good ks h k
+
+    -- what a round knows of procedures is so of what stands for them
+    stands_good : (ks : Losses) → ((p : ProcRef) → known_of ks p ≡ nowhere → IsFullProcedure p) → (r : Routine) → IsGood ks r
+    stands_good ks h r p i e =
+        let x = h p i in
+        let is : routine x.found.params x.found.locals (statements g x.found.body.list) x.found.value ≡ r =
+        same_Some (routine x.found.params x.found.locals (statements g x.found.body.list) x.found.value) r (sym (linked p x.found x.declared) ∙ e) in
+        subst (λ z. FullRoutine g z) is x.full
+
+    -- each round is right by the one before
+    module _ (fs : Reached) (are : AreDeclared ds fs) where
+      known_full : (n : ℕ) (p : ProcRef) → known_of (rounds ds full n fs) p ≡ nowhere → IsFullProcedure p
+      known_full zero p e = absurd (false≢true (ap is_nowhere e))
+      known_full (suc n) p e =
+          let x = round_known ds full (rounds ds full n fs) fs are p e in
+          let w = typed p x.found x.declared in
+          record {
+            found = x.found;
+            declared = x.declared;
+            full = each_full (rounds ds full n fs) (locals_of x.found) x.found.body.list w.statements x.full
+                (all_good (rounds ds full n fs) (stands_good (rounds ds full n fs) (λ q i. known_full n q i)) (statements g x.found.body.list));
+          }
+
+    body_full : (ls : List TypedName) (is : List Instr) → IsBody c ls is → first_loss ds is ≡ nowhere → Full g (statements g is)
+    unfolding losses
+    body_full ls is w e =
+        let o = all_reached ds (calls is) in
+        let fs = declared_if ds o in
+        each_full (table ds (calls is)) ls is w.statements e (all_good (table ds (calls is)) (stands_good (table ds (calls is)) (λ p i. known_full fs (all_declared ds o) (length fs) p i)) (statements g is))
+
+    procedure_full : (p : ProcRef) → known_of (table ds (p ∷ [])) p ≡ nowhere → IsFullProcedure p
+    unfolding losses
+    procedure_full p e = let o = all_reached ds (p ∷ []) in let fs = declared_if ds o in known_full fs (all_declared ds o) (length fs) p e
 
 -- Over a typed scope.
 module _ (ds : Declarations) (scoped : IsTypedScope (declared ds)) (q : Sequent) (t : IsTypedSequent (context_of (declared ds)) q) (g : Setting)

@@ -1,5 +1,5 @@
 -- Where a term and a statement may lose weight, by their parts.
-use Rattle.std.proofs.Common.{◌≡◌, ℕ, zero, suc, ◌+◌, Bool, ◌||◌, List, [], ◌∷◌, ◌++◌, append_assoc, drop, refl, ap, sym, ◌∙◌, arith}
+use Rattle.std.proofs.Common.{◌≡◌, ℕ, zero, suc, ◌+◌, Bool, ◌||◌, List, [], ◌∷◌, ◌++◌, append_assoc, drop, map, refl, ap, sym, ◌∙◌, arith}
 use Rattle.std.specs.List.{list_any}
 use Rattle.gb_terms.specs.declared.term.Term.{Term, Term', Row_of-Term, end_of-Term, more_of-Term, end_of-Head, more_of-Head, items-the_row-Term, items_shown-the_row-Term-0}
 use Rattle.gb_terms.specs.declared.term.Cmd.{Cmd, items-the_row-Instr, items_hidden-the_row-Instr-1}
@@ -9,9 +9,9 @@ use Rattle.gb_terms.specs.declared.term.Head.TheViews.{out-Term, outs-struct-Ter
 use Rattle.gb_terms.specs.declared.term.Instr.{Instr, Row_of-Instr, end_of-Instr, more_of-Instr}
 use Rattle.gb_goal.specs.Scope.{Declarations, entry_at}
 use Rattle.gb_meaning.specs.Names.{Name}
-use Rattle.gb_full.specs.declared.loss.Loss as seen
-use Rattle.gb_full.specs.declared.loss.Loss.TheVariants as of_code
-use Rattle.gb_full.specs.Loss.{Loss, loss_seen, head_loses, loses_in, any_loses, head_names, named, row_named, each_named, unknown, body_loses, operator_loses, loses_by, with_named, names_at, with_operators, or_after, Losses, statement_loss, row_loss, body_loss, procedures_at, all_procedures}
+use Rattle.gb_full.specs.declared.loss.Losing.{Losing}
+use Rattle.gb_full.specs.declared.loss.Losing.TheVariants as of_code
+use Rattle.gb_full.specs.Loss.{Loss, losing_seen, head_loses, loses_in, any_loses, head_names, named, row_named, each_named, unknown, body_loses, operator_loses, loses_by, with_named, names_at, with_operators, or_after, Losses, statement_loss, row_loss, body_loss, Reached, round, rounds}
 use mathlib.Core.Former.{Count}
 
 -- Terms.
@@ -65,23 +65,13 @@ module _ (ds : Declarations) (ns : List Name) (ks : Losses) where
   loss_while e v a = loss_list a.list
 
 -- what comes after a loss doesn't matter
-pub first_kept : (l : seen.Loss) (k : Loss) → (l ≡ of_code.Nowhere → ⊥) → or_after (loss_seen l) k ≡ loss_seen l
+pub first_kept : (l : Losing) (k : Loss) → (l ≡ of_code.Nowhere → ⊥) → or_after (losing_seen l) k ≡ losing_seen l
 first_kept of_code.Nowhere k n = absurd (n refl)
 first_kept (of_code.Sampled x) k n = refl
 first_kept of_code.Called k n = refl
 
 next_is : (i : ℕ) → i + 1 ≡ suc i
 next_is i = omega arith
-
-next_at : (ds : Declarations) (i : ℕ) → all_procedures (drop i ds) ≡ procedures_at (entry_at ds i) ++ all_procedures (drop (suc i) ds)
-next_at [] zero = refl
-next_at [] (suc i) = refl
-next_at (d ∷ ds) zero = refl
-next_at (d ∷ ds) (suc i) = next_at ds i
-
--- the procedures of one thing further
-pub procedures_next : (ds : Declarations) (i : ℕ) → all_procedures (drop i ds) ≡ procedures_at (entry_at ds i) ++ all_procedures (drop (i + 1) ds)
-procedures_next ds i = next_at ds i ∙ ap (λ k. procedures_at (entry_at ds i) ++ all_procedures (drop k ds)) (sym (next_is i))
 
 operators_at : (ds : Declarations) (ns : List Name) (es : Declarations) (i : ℕ) → with_operators ds ns (drop i es) ≡ with_operators ds (with_named ds ns (names_at (entry_at es i))) (drop (suc i) es)
 operators_at ds ns [] zero = refl
@@ -92,3 +82,11 @@ operators_at ds ns (e ∷ es) (suc i) = operators_at ds ns es i
 -- the operators of one thing further
 pub operators_next : (ds : Declarations) (ns : List Name) (i : ℕ) → with_operators ds ns (drop i ds) ≡ with_operators ds (with_named ds ns (names_at (entry_at ds i))) (drop (i + 1) ds)
 operators_next ds ns i = operators_at ds ns ds i ∙ ap (λ k. with_operators ds (with_named ds ns (names_at (entry_at ds i))) (drop k ds)) (sym (next_is i))
+
+-- one round further
+pub rounds_next : (ds : Declarations) (ns : List Name) (i : ℕ) (fs : Reached) → rounds ds ns (i + 1) fs ≡ round ds ns (rounds ds ns i fs) fs
+rounds_next ds ns i fs = ap (λ n. rounds ds ns n fs) (next_is i)
+
+pub map_push : {A B : Type 0} (f : A → B) (xs : List A) (y : A) → map f (xs ++ y ∷ []) ≡ map f xs ++ f y ∷ []
+map_push f [] y = refl
+map_push f (x ∷ xs) y = ap (λ z. f x ∷ z) (map_push f xs y)

@@ -1,5 +1,5 @@
 -- Where a program may lose weight, in itself and in what it calls.
-use Rattle.std.specs.Prelude.{Bool, true, false, not, ◌||◌, if◌then◌else◌, List, [], ◌∷◌, ◌++◌, Option, Some, None, bytes_eq}
+use Rattle.std.specs.Prelude.{ℕ, zero, suc, length, Bool, true, false, not, ◌||◌, if◌then◌else◌, List, [], ◌∷◌, ◌++◌, Option, Some, None, bytes_eq}
 use Rattle.std.specs.List.{list_any}
 use Rattle.gb_core.specs.declared.var.Var.{Var}
 use Rattle.gb_terms.specs.declared.decl.Proc.{Proc}
@@ -15,11 +15,13 @@ use Rattle.gb_goal.specs.Scope.{Declarations, entry_of, procedure_of}
 use Rattle.gb_goal.specs.declared.scope.Entry.{Entry}
 use Rattle.gb_goal.specs.declared.scope.Entry.TheVariants as entry
 use Rattle.gb_meaning.specs.Names.{Name}
-use Rattle.gb_mods.specs.Called.{same_procedure}
-use Rattle.gb_mods.specs.Footprint.{references}
-use Rattle.gb_full.specs.declared.loss.Loss as seen
-use Rattle.gb_full.specs.declared.loss.Loss.TheVariants as of_code
+use Rattle.gb_mods.specs.Called.{all_reached, calls, same_procedure}
+use Rattle.gb_full.specs.declared.loss.Loss as held
+use Rattle.gb_full.specs.declared.loss.Loss.TheVariants as held_loss
+use Rattle.gb_full.specs.declared.loss.Losing.{Losing}
+use Rattle.gb_full.specs.declared.loss.Losing.TheVariants as of_code
 use Rattle.gb_full.specs.declared.loss.Known.{Known}
+use Rattle.gb_full.specs.declared.loss.Reached.{Reached as HeldReached}
 
 -- Terms.
 
@@ -104,7 +106,7 @@ may_lose ds t = loses_by ds (full_operators ds) t
 
 -- Bodies.
 
--- where weight may be lost: nowhere; first where this variable is sampled; or first in a call of what isn't declared by its name
+-- where weight may be lost: nowhere; first where this variable is sampled; or first in a call of what isn't declared
 pub data Loss : Type 0 where
   nowhere : Loss
   sampled : Var → Loss
@@ -117,6 +119,10 @@ or_after k l = k
 -- where procedures may lose weight first, each with what it calls
 abbrev pub Losses : Type 0
 Losses = List (ProcRef × Loss)
+
+-- procedures, each with what it is, where it is declared
+abbrev pub Reached : Type 0
+Reached = List (ProcRef × Option Proc)
 
 -- what is known of a procedure
 abbrev pub known_of : Losses → ProcRef → Loss
@@ -147,38 +153,55 @@ module _ (ds : Declarations) (ns : List Name) where
   procedure_loss ks None = called
   procedure_loss ks (Some p) = body_loss ks p.body.list
 
-  -- what is known, with procedures behind, each by those before it
-  abbrev pub with_procedures : Losses → List ProcRef → Losses
-  with_procedures ks [] = ks
-  with_procedures ks (p ∷ ps) = with_procedures (ks ++ (p, procedure_loss ks (procedure_of ds p)) ∷ []) ps
+  -- what is known of procedures, by what is known of those that they call
+  abbrev pub round : Losses → Reached → Losses
+  round ks [] = []
+  round ks (f ∷ fs) = (f.0, procedure_loss ks f.1) ∷ round ks fs
 
-abbrev pub procedures_at : Option Entry → List ProcRef
-procedures_at (Some (entry.Module m)) = references m.name m.procs
-procedures_at _ = []
+  abbrev pub rounds : ℕ → Reached → Losses
+  rounds zero fs = []
+  rounds (suc n) fs = round (rounds n fs) fs
 
--- the procedures of all modules, in order of declaration
-abbrev pub all_procedures : Declarations → List ProcRef
-all_procedures [] = []
-all_procedures (d ∷ ds) = procedures_at (Some d.1) ++ all_procedures ds
+-- What is known of procedures, where these have all among them that they call. Calls don't go round: so each is known after as many
+-- rounds as there are procedures.
+unfoldable pub losses : Declarations → List Name → Reached → Losses
+losses ds ns fs = rounds ds ns (length fs) fs
 
--- Procedures call those that are declared before them: so each is known by going through them once.
-unfoldable pub table : Declarations → List Name → Losses
-table ds ns = with_procedures ds ns [] (all_procedures ds)
+abbrev pub declared_each : Declarations → List ProcRef → Reached
+declared_each ds [] = []
+declared_each ds (p ∷ ps) = (p, procedure_of ds p) ∷ declared_each ds ps
+
+abbrev pub declared_if : Declarations → Option (List ProcRef) → Reached
+declared_if ds None = []
+declared_if ds (Some ps) = declared_each ds ps
+
+-- what is known of procedures and of all that they call
+abbrev pub table : Declarations → List ProcRef → Losses
+table ds ps = losses ds (full_operators ds) (declared_if ds (all_reached ds ps))
 
 -- The first loss of a body, in the order of the text, with what it calls at each call.
 abbrev pub first_loss : Declarations → List Instr → Loss
-first_loss ds is = body_loss ds (full_operators ds) (table ds (full_operators ds)) is
+first_loss ds is = body_loss ds (full_operators ds) (table ds (calls is)) is
 
 -- the same of what a judgment speaks of
 abbrev pub code_loss : Declarations → Code → Loss
 code_loss ds (body is) = first_loss ds is
-code_loss ds (procedure p) = known_of (table ds (full_operators ds)) p
+code_loss ds (procedure p) = known_of (table ds (p ∷ [])) p
+
+-- what the code holds
+abbrev pub loss_seen : held.Loss → Loss
+loss_seen held_loss.Nowhere = nowhere
+loss_seen (held_loss.Sampled x) = sampled x
+loss_seen held_loss.Called = called
 
 -- the same, of references
-abbrev pub loss_seen : seen.Loss → Loss
-loss_seen of_code.Nowhere = nowhere
-loss_seen (of_code.Sampled x) = sampled x.now
-loss_seen of_code.Called = called
+abbrev pub losing_seen : Losing → Loss
+losing_seen of_code.Nowhere = nowhere
+losing_seen (of_code.Sampled x) = sampled x.now
+losing_seen of_code.Called = called
 
 abbrev pub known_seen : Known → ProcRef × Loss
-known_seen k = (k.procedure, loss_seen k.loss)
+known_seen k = (k.procedure.now, losing_seen k.loss)
+
+abbrev pub reached_seen : HeldReached → ProcRef × Option Proc
+reached_seen r = (r.procedure, r.declared)

@@ -1,17 +1,18 @@
 // Where a program may lose weight, in itself and in what it calls.
 
-ghost use Rattle.std.specs.Prelude.{◌≡◌, ◌++◌, [], map, IfOk};
+ghost use Rattle.std.specs.Prelude.{◌≡◌, ◌++◌, [], ◌∷◌, map, IfOk};
 ghost use Rattle.std.specs.List.{list_any};
 ghost use Rattle.std.specs.Option.{option_copied};
 ghost use Rattle.gb_goal.specs.Goal.{code_of};
-ghost use Rattle.gb_full.specs.Loss.{all_procedures, body_loses, body_loss, code_loss, each_named, entry_loses, first_loss, full_operators, head_loses, head_names, is_among, known_of, known_seen, loses_by, loss_seen, named, names_at, operator_loses, procedure_loss, procedures_at, statement_loss, table, unknown, with_named, with_procedures};
+ghost use Rattle.gb_mods.specs.Called.{all_reached};
+ghost use Rattle.gb_full.specs.Loss.{body_loses, body_loss, code_loss, declared_each, declared_if, each_named, entry_loses, first_loss, full_operators, head_loses, head_names, is_among, known_of, known_seen, loses_by, losing_seen, loss_seen, losses, named, names_at, operator_loses, procedure_loss, reached_seen, round, statement_loss, table, unknown, with_named};
 
 use gb_core::Shared;
+use gb_core::copy::copy_var;
 use gb_core::name::{Name, Names};
 use gb_core::var::Var;
 use gb_goal::scope::{Entry, Scope};
-use gb_mods::called::{Procedures, same_procedure};
-use gb_mods::footprint::references;
+use gb_mods::called::{Procedures, all_reached, calls, same_procedure};
 use gb_terms::decl::Proc;
 use gb_terms::module::ProcRef;
 use gb_terms::term::{Head, Instr, Subject, Term};
@@ -19,12 +20,20 @@ use sqlite_items::Items;
 use std::alloc::{AllocError, Global};
 
 /// Where weight may be lost.
-#[derive(Clone, Copy)]
-pub enum Loss<'a> {
+#[derive(Drop)]
+pub enum Loss {
     Nowhere,
     /// First where this variable is sampled.
+    Sampled(Var),
+    /// First in a call of a procedure that isn't declared.
+    Called,
+}
+
+/// The same, of a variable that a body has.
+#[derive(Clone, Copy)]
+enum Losing<'a> {
+    Nowhere,
     Sampled(&'a Var),
-    /// First in a call of a procedure that isn't declared by its name.
     Called,
 }
 
@@ -184,22 +193,22 @@ pub fn full_operators(alloc: Global, scope: &Scope) -> Result<Names, AllocError>
 }
 
 /// A procedure, and where it may lose weight first, with what it calls.
-#[derive(Drop)]
-pub struct Known<'a> {
-    pub procedure: Shared<ProcRef>,
-    pub loss: Loss<'a>,
+#[derive(Clone, Copy)]
+struct Known<'a> {
+    procedure: &'a ProcRef,
+    loss: Losing<'a>,
 }
 
 /// What is known of a procedure.
-fn known_of<'a>(known: &[Known<'a>], procedure: &ProcRef) -> Loss<'a>
-    ensures { loss_seen result ≡ known_of (map known_seen known.now) procedure.now }
+fn known_of<'a>(known: &[Known<'a>], procedure: &ProcRef) -> Losing<'a>
+    ensures { losing_seen result ≡ known_of (map known_seen known.now) procedure.now }
 {
     for x in known {
-        if same_procedure(x.procedure.get(), procedure) {
+        if same_procedure(x.procedure, procedure) {
             return x.loss;
         }
     }
-    Loss::Called
+    Losing::Called
 }
 
 /// Where a statement may lose weight first, with what it calls. It is told which operators are full, and what is known of procedures.
@@ -209,21 +218,21 @@ fn statement_loss<'a>(
     scope: &Scope,
     full: &[Name],
     known: &[Known<'a>],
-) -> Loss<'a>
-    ensures { loss_seen result ≡ statement_loss scope.now full.now (map known_seen known.now) statement.now }
+) -> Losing<'a>
+    ensures { losing_seen result ≡ statement_loss scope.now full.now (map known_seen known.now) statement.now }
 {
     match statement {
-        Instr::Assign(..) => Loss::Nowhere,
+        Instr::Assign(..) => Losing::Nowhere,
         Instr::Sample(target, from) => {
             if may_lose(from, scope, full) {
-                Loss::Sampled(target)
+                Losing::Sampled(target)
             } else {
-                Loss::Nowhere
+                Losing::Nowhere
             }
         }
         Instr::Call(_, procedure, _) => known_of(known, procedure.get()),
         Instr::If(_, yes, no) => match body_loss(yes.list.as_slice(), scope, full, known) {
-            Loss::Nowhere => body_loss(no.list.as_slice(), scope, full, known),
+            Losing::Nowhere => body_loss(no.list.as_slice(), scope, full, known),
             found => found,
         },
         Instr::While(_, _, body) => body_loss(body.list.as_slice(), scope, full, known),
@@ -232,111 +241,188 @@ fn statement_loss<'a>(
 
 /// Where a body may lose weight first, in the order of the text, with what it calls at each call.
 #[cycle(statements)]
-fn body_loss<'a>(list: &'a [Instr], scope: &Scope, full: &[Name], known: &[Known<'a>]) -> Loss<'a>
-    ensures { loss_seen result ≡ body_loss scope.now full.now (map known_seen known.now) list.now }
+fn body_loss<'a>(list: &'a [Instr], scope: &Scope, full: &[Name], known: &[Known<'a>]) -> Losing<'a>
+    ensures { losing_seen result ≡ body_loss scope.now full.now (map known_seen known.now) list.now }
 {
     for statement in list {
         match statement_loss(statement, scope, full, known) {
-            Loss::Nowhere => {}
+            Losing::Nowhere => {}
             found => return found,
         }
     }
-    Loss::Nowhere
+    Losing::Nowhere
 }
 
-/// The same of a procedure.
-fn procedure_loss<'a>(
-    found: Option<&'a Proc>,
+/// A procedure that is reached, and what it is, where it is declared.
+#[derive(Drop)]
+struct Reached {
+    procedure: Shared<ProcRef>,
+    declared: Option<Shared<Proc>>,
+}
+
+impl Reached {
+    /// Where it may lose weight first, with what it calls.
+    fn loss<'a>(&'a self, scope: &Scope, full: &[Name], known: &[Known<'a>]) -> Losing<'a>
+        ensures { losing_seen result ≡ procedure_loss scope.now full.now (map known_seen known.now) self.now.declared }
+    {
+        match &self.declared {
+            Some(procedure) => {
+                body_loss(procedure.get().body.list.as_slice(), scope, full, known)
+            }
+            None => Losing::Called,
+        }
+    }
+}
+
+/// What is known of procedures, by what is known of those that they call.
+fn round<'a>(
+    alloc: Global,
     scope: &Scope,
     full: &[Name],
     known: &[Known<'a>],
-) -> Loss<'a>
-    ensures { loss_seen result ≡ procedure_loss scope.now full.now (map known_seen known.now) (option_copied found.entry) }
-{
-    match found {
-        Some(procedure) => body_loss(procedure.body.list.as_slice(), scope, full, known),
-        None => Loss::Called,
-    }
-}
-
-/// What is known of procedures, each by those before it.
-fn with_procedures<'a>(
-    alloc: Global,
-    scope: &'a Scope,
-    full: &[Name],
-    list: &[Shared<ProcRef>],
+    list: &'a [Reached],
 ) -> Result<Items<Known<'a>>, AllocError>
-    ensures { IfOk result (λ made. map known_seen made ≡ with_procedures scope.now full.now [] list.now) }
-{
-    let mut known = Items::new(alloc);
-    for x in list {
-        let loss = procedure_loss(scope.procedure(x.get()), scope, full, known.as_slice());
-        let procedure = x.share()?;
-        known.push(Known { procedure, loss })?;
-    }
-    Ok(known)
-}
-
-/// The procedures of a declared thing, where it is a module.
-fn procedures_at(alloc: Global, entry: Option<&Entry>) -> Result<Procedures, AllocError>
-    ensures { IfOk result (λ made. made ≡ procedures_at (option_copied entry.entry)) }
-{
-    match entry {
-        Some(Entry::Module(module)) => references(alloc, &module.name, module.procs.as_slice()),
-        _ => Ok(Items::new(alloc)),
-    }
-}
-
-/// The procedures of all modules, in order of declaration.
-fn all_procedures(alloc: Global, scope: &Scope) -> Result<Procedures, AllocError>
-    ensures { IfOk result (λ made. made ≡ all_procedures scope.now) }
+    ensures { IfOk result (λ made. map known_seen made ≡ round scope.now full.now (map known_seen known.now) (map reached_seen list.now)) }
 {
     let mut all = Items::new(alloc);
-    for i in 0..scope.len() {
-        all.append(procedures_at(alloc, scope.entry_at(i))?)?;
+    for x in list {
+        let loss = x.loss(scope, full, known);
+        let procedure = x.procedure.get();
+        all.push(Known { procedure, loss })?;
     }
     Ok(all)
 }
 
-/// What is known of all procedures. Each calls those that are declared before it.
-#[tactic(auto, unfolding(crate::specs::Loss::table))]
-fn table<'a>(alloc: Global, scope: &'a Scope, full: &[Name]) -> Result<Items<Known<'a>>, AllocError>
-    ensures { IfOk result (λ made. map known_seen made ≡ table scope.now full.now) }
+/// What is known of procedures, where these have all among them that they call.
+#[tactic(auto, using(crate::proofs::LossSteps::rounds_next), unfolding(crate::specs::Loss::losses))]
+fn losses<'a>(
+    alloc: Global,
+    scope: &Scope,
+    full: &[Name],
+    list: &'a [Reached],
+) -> Result<Items<Known<'a>>, AllocError>
+    ensures { IfOk result (λ made. map known_seen made ≡ losses scope.now full.now (map reached_seen list.now)) }
 {
-    let all = all_procedures(alloc, scope)?;
-    with_procedures(alloc, scope, full, all.as_slice())
+    let mut known = Items::new(alloc);
+    for i in 0..list.len() {
+        known = round(alloc, scope, full, known.as_slice(), list)?;
+    }
+    Ok(known)
+}
+
+fn declared_each(
+    alloc: Global,
+    scope: &Scope,
+    list: &[Shared<ProcRef>],
+) -> Result<Items<Reached>, AllocError>
+    ensures { IfOk result (λ made. map reached_seen made ≡ declared_each scope.now list.now) }
+{
+    let mut all = Items::new(alloc);
+    for x in list {
+        let declared = scope.procedure(alloc, x.get())?;
+        let procedure = x.share()?;
+        all.push(Reached {
+            procedure,
+            declared,
+        })?;
+    }
+    Ok(all)
+}
+
+/// Procedures and all that they call.
+fn reached_from(
+    alloc: Global,
+    scope: &Scope,
+    first: Procedures,
+) -> Result<Items<Reached>, AllocError>
+    ensures { IfOk result (λ made. map reached_seen made ≡ declared_if scope.now (all_reached scope.now first)) }
+{
+    match all_reached(alloc, scope, first)? {
+        Some(all) => declared_each(alloc, scope, all.as_slice()),
+        None => Ok(Items::new(alloc)),
+    }
+}
+
+impl Losing<'_> {
+    fn copy(self, alloc: Global) -> Result<Loss, AllocError>
+        ensures { IfOk result (λ made. loss_seen made ≡ losing_seen self.entry) }
+    {
+        match self {
+            Losing::Nowhere => Ok(Loss::Nowhere),
+            Losing::Sampled(var) => {
+                let var = copy_var(alloc, var)?;
+                Ok(Loss::Sampled(var))
+            }
+            Losing::Called => Ok(Loss::Called),
+        }
+    }
+}
+
+/// Where a body may lose weight first, where these procedures have all among them that it calls, and all that they call.
+fn loss_among<'a>(
+    alloc: Global,
+    scope: &Scope,
+    full: &[Name],
+    list: &'a [Instr],
+    reached: &'a [Reached],
+) -> Result<Loss, AllocError>
+    ensures { IfOk result (λ lost. loss_seen lost ≡ body_loss scope.now full.now (losses scope.now full.now (map reached_seen reached.now)) list.now) }
+{
+    let known = losses(alloc, scope, full, reached)?;
+    body_loss(list, scope, full, known.as_slice()).copy(alloc)
 }
 
 /// Where a body may lose weight first, in the order of the text, with what it calls at each call.
-pub fn first_loss<'a>(
-    alloc: Global,
-    scope: &'a Scope,
-    list: &'a [Instr],
-) -> Result<Loss<'a>, AllocError>
+pub fn first_loss(alloc: Global, scope: &Scope, list: &[Instr]) -> Result<Loss, AllocError>
     ensures { IfOk result (λ lost. loss_seen lost ≡ first_loss scope.now list.now) }
 {
+    let first = calls(alloc, Items::new(alloc), list)?;
+    let reached = reached_from(alloc, scope, first)?;
     let full = full_operators(alloc, scope)?;
-    let known = table(alloc, scope, full.as_slice())?;
-    Ok(body_loss(list, scope, full.as_slice(), known.as_slice()))
+    loss_among(alloc, scope, full.as_slice(), list, reached.as_slice())
+}
+
+/// Where one of several procedures may lose weight first, where these have all among them that they call.
+fn loss_of(
+    alloc: Global,
+    scope: &Scope,
+    full: &[Name],
+    procedure: &ProcRef,
+    reached: &[Reached],
+) -> Result<Loss, AllocError>
+    ensures { IfOk result (λ lost. loss_seen lost ≡ known_of (losses scope.now full.now (map reached_seen reached.now)) procedure.now) }
+{
+    let known = losses(alloc, scope, full, reached)?;
+    known_of(known.as_slice(), procedure).copy(alloc)
+}
+
+/// Where a procedure may lose weight first, with what it calls.
+fn procedure_loss(
+    alloc: Global,
+    scope: &Scope,
+    procedure: &Shared<ProcRef>,
+) -> Result<Loss, AllocError>
+    ensures { IfOk result (λ lost. loss_seen lost ≡ known_of (table scope.now (procedure.now ∷ [])) procedure.now) }
+{
+    let mut first = Items::new(alloc);
+    first.push(procedure.share()?)?;
+    let reached = reached_from(alloc, scope, first)?;
+    let full = full_operators(alloc, scope)?;
+    loss_of(
+        alloc,
+        scope,
+        full.as_slice(),
+        procedure.get(),
+        reached.as_slice(),
+    )
 }
 
 /// The same of what a judgment speaks of.
-pub fn subject_loss<'a>(
-    alloc: Global,
-    scope: &'a Scope,
-    subject: &'a Subject,
-) -> Result<Loss<'a>, AllocError>
+pub fn subject_loss(alloc: Global, scope: &Scope, subject: &Subject) -> Result<Loss, AllocError>
     ensures { IfOk result (λ lost. loss_seen lost ≡ code_loss scope.now (code_of subject.now)) }
 {
-    let full = full_operators(alloc, scope)?;
-    let known = table(alloc, scope, full.as_slice())?;
     match subject {
-        Subject::Body(body) => Ok(body_loss(
-            body.list.as_slice(),
-            scope,
-            full.as_slice(),
-            known.as_slice(),
-        )),
-        Subject::Proc(named) => Ok(known_of(known.as_slice(), named.get())),
+        Subject::Body(body) => first_loss(alloc, scope, body.list.as_slice()),
+        Subject::Proc(named) => procedure_loss(alloc, scope, named),
     }
 }

@@ -17,11 +17,11 @@ use gb_terms::op::Rel;
 use gb_terms::term::{Form, RealTerm};
 use std::alloc::Global;
 
-/// Why a judgment of what loses weight is refused: `NotLossless` at a variable, and `Shape` at a call of what isn't declared by its name.
-pub fn full(alloc: Global, lost: Loss<'_>) -> Result<(), Refused>
-    ensures { Answers (full (loss_seen lost.entry)) result }
+/// Why a judgment of what loses weight is refused: `NotLossless` at a variable, and `Shape` at a call of what isn't declared.
+pub fn full(alloc: Global, lost: Loss) -> Result<(), Refused>
+    ensures { Answers (full (loss_seen lost)) result }
 {
-    match lost {
+    match &lost {
         Loss::Nowhere => Ok(()),
         Loss::Sampled(var) => {
             let var = copy_var(alloc, var)?;
@@ -41,17 +41,17 @@ pub struct Judged<'a> {
 }
 
 /// The goals of a judgment of what stands before a statement. Weight that is lost there makes a probability less: the bound isn't
-/// below 0 then, or the rule is refused, with `NotLossless` at a variable, and with `Shape` at a call of what isn't declared by its name.
+/// below 0 then, or the rule is refused, with `NotLossless` at a variable, and with `Shape` at a call of what isn't declared.
 pub fn of_rest(
     alloc: Global,
     goal: &Sequent,
-    lost: Loss<'_>,
+    lost: Loss,
     judged: &Judged<'_>,
     conclusion: Form,
 ) -> Result<Sequents, Refused>
-    ensures { (G : TypedGoal) → conclusion ≡ form_of G → Answers (each_concluding goal.now (of_rest (loss_seen lost.entry) judged.now.rel judged.now.bound.now G)) result }
+    ensures { (G : TypedGoal) → conclusion ≡ form_of G → Answers (each_concluding goal.now (of_rest (loss_seen lost) judged.now.rel judged.now.bound.now G)) result }
 {
-    match (lost, judged.rel) {
+    match (&lost, judged.rel) {
         (Loss::Nowhere, _) => Ok(one_goal(alloc, goal, conclusion)?),
         (_, Rel::AtMost) => {
             let least = number_compared(alloc, Rel::AtMost, 0, judged.bound)?;

@@ -1,6 +1,10 @@
 pub mod Answers
+pub mod Entries
 pub mod Goal
+pub mod Instances
+pub mod Interfaces
 pub mod Nodes
 pub mod Rows
 pub mod Scope
+pub mod Seen
 pub mod Views

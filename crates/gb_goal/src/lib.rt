@@ -2,6 +2,8 @@
 #![tactic(auto)]
 
 pub mod goal;
+pub mod instance;
+pub mod interface;
 pub mod module_type;
 pub mod scope;
 pub mod sequent;

@@ -1,9 +1,12 @@
 // The scope of a script.
 
 ghost use Rattle.std.specs.Prelude.{◌≡◌, ◌≤◌, ◌↔◌, [], ◌∷◌, ◌++◌, length, take, None, string_bytes, IsTrue, IfOk, OnOk, OnErr};
-ghost use Rattle.std.specs.Option.{option_copied};
-ghost use Rattle.gb_goal.specs.Scope.{AreNew, binders_of, constant_named, declarations_in, entry_at, entry_of, is_proved, is_the_same, module_of, module_type_of, lemma_of, operator_named, path_of, proc_of, proc_in, procedure_of, type_named, weight};
+ghost use Rattle.std.specs.Option.{option_copied, option_map};
+ghost use Rattle.gb_goal.specs.Instances.{instance};
+ghost use Rattle.gb_goal.specs.Scope.{AreNew, binders_of, constant_named, declarations_in, entry_at, entry_of, instance_at, is_proved, is_the_same, lemma_of, module_of, module_type_of, operator_named, path_of, proc_in, proc_of, procedure_of, type_named, weight};
 
+use crate::instance::instance;
+use crate::interface::suits;
 use crate::module_type::ModuleType;
 use crate::sequent::Sequent;
 use gb_core::name::Name;
@@ -145,25 +148,73 @@ impl Model for Scope {
 }
 
 /// The first procedure of this name.
-pub fn procedure_named<'a>(procs: &'a [Proc], name: &Name) -> Option<&'a Proc>
+pub fn procedure_named<'a>(procs: &'a [Shared<Proc>], name: &Name) -> Option<&'a Shared<Proc>>
     ensures { option_copied result ≡ proc_of procs.now name.now }
 {
     for p in procs {
-        if same_name(name, &p.name) {
+        if same_name(name, &p.get().name) {
             return Some(p);
         }
     }
     None
 }
 
-fn procedure_in<'a>(found: Option<&'a Module>, name: &Name) -> Option<&'a Proc>
-    ensures { option_copied result ≡ proc_in (option_copied found.entry) name.now }
+/// The procedure of this name in a module without parameters.
+fn procedure_in(found: Option<&Module>, name: &Name) -> Result<Option<Shared<Proc>>, AllocError>
+    ensures { IfOk result (λ p. p ≡ proc_in (option_copied found.entry) name.now) }
 {
     match found {
         Some(module) if module.params.is_empty() => {
-            procedure_named(module.procs.as_slice(), name)
+            shared(procedure_named(module.procs.as_slice(), name))
         }
-        _ => None,
+        _ => Ok(None),
+    }
+}
+
+fn shared(found: Option<&Shared<Proc>>) -> Result<Option<Shared<Proc>>, AllocError>
+    ensures { IfOk result (λ p. p ≡ option_copied found.entry) }
+{
+    match found {
+        Some(p) => {
+            let p = p.share()?;
+            Ok(Some(p))
+        }
+        None => Ok(None),
+    }
+}
+
+/// The procedure of this name in a module with modules for its parameters, if they suit these.
+fn instance_at(
+    alloc: Global,
+    scope: &Scope,
+    found: Option<&Module>,
+    args: &[Mexp],
+    name: &Name,
+) -> Result<Option<Shared<Proc>>, AllocError>
+    ensures { IfOk result (λ p. p ≡ instance_at scope.now (option_copied found.entry) args.now name.now) }
+{
+    match found {
+        Some(module) if suits(scope, module.params.as_slice(), args) => {
+            instance_in(alloc, module, args, name)
+        }
+        _ => Ok(None),
+    }
+}
+
+fn instance_in(
+    alloc: Global,
+    module: &Module,
+    args: &[Mexp],
+    name: &Name,
+) -> Result<Option<Shared<Proc>>, AllocError>
+    ensures { IfOk result (λ p. p ≡ option_map (instance «module».now.params args.now) (proc_of «module».now.procs name.now)) }
+{
+    match procedure_named(module.procs.as_slice(), name) {
+        Some(p) => {
+            let made = instance(alloc, module.params.as_slice(), args, p.get())?;
+            Ok(Some(Shared::new(alloc, made)?))
+        }
+        None => Ok(None),
     }
 }
 
@@ -320,13 +371,21 @@ impl Scope {
         }
     }
 
-    /// The procedure of a module without parameters, which the reference names by its name alone.
-    pub fn procedure(&self, reference: &ProcRef) -> Option<&Proc>
-        ensures { option_copied result ≡ procedure_of self.now reference.now }
+    /// The procedure that a reference means, of a declared module that lacks none: where it has parameters, its own one with the
+    /// reference's modules for them, if these suit them.
+    pub fn procedure(
+        &self,
+        alloc: Global,
+        reference: &ProcRef,
+    ) -> Result<Option<Shared<Proc>>, AllocError>
+        ensures { IfOk result (λ p. p ≡ procedure_of self.now reference.now) }
     {
+        let name = &reference.name;
         match &reference.module {
-            Mexp::Name(name) => procedure_in(self.module(name), &reference.name),
-            Mexp::Apply(..) => None,
+            Mexp::Name(module) => procedure_in(self.module(module), name),
+            Mexp::Apply(module, args) => {
+                instance_at(alloc, self, self.module(module), args.as_slice(), name)
+            }
         }
     }
 

@@ -1,23 +1,15 @@
 -- What module expressions stand for. Each procedure stands for a thing of a type X: its linked tree, or the variables
 -- that it reads and writes. The declarations are gone through in order, so that nothing is recursive.
-use Rattle.std.specs.Prelude.{List, [], ◌∷◌, ◌++◌, map, Option, Some, None, if◌then◌else◌, bytes_eq}
+use Rattle.std.specs.Prelude.{List, [], ◌∷◌, ◌++◌, map, Option, if◌then◌else◌, bytes_eq}
 use Rattle.gb_terms.specs.declared.decl.Param.{Param}
 use Rattle.gb_terms.specs.declared.decl.Proc.{Proc}
 use Rattle.gb_terms.specs.declared.decl.Module.{Module}
 use Rattle.gb_terms.specs.declared.module.Mexp.{Mexp, Row_of-Mexp, end_of-Mexp, more_of-Mexp}
 use Rattle.gb_terms.specs.declared.module.Mexp.TheVariants.{Name as named, Apply'}
 use Rattle.gb_terms.specs.declared.module.ProcRef.{ProcRef}
+pub use Rattle.gb_goal.specs.Interfaces.{Procedures, found}
 use Rattle.gb_meaning.specs.Names.{Name}
 use Rattle.gb_holds.specs.Declared.{Declarations, concrete_module}
-
--- the procedures of a module, in order
-abbrev pub Procedures : Type 0 → Type 0
-Procedures X = List (Name × X)
-
--- the first thing of this name
-abbrev pub found : {X : Type 0} → List (Name × X) → Name → Option X
-found [] n = None
-found (x ∷ xs) n = if bytes_eq n x.0 then Some x.1 else found xs n
 
 -- a module that lacks modules, each without parameters
 abbrev pub Functor : Type 0 → Type 0

@@ -1,7 +1,6 @@
 //! The body of a procedure in place of a call.
 
 ghost use Rattle.std.specs.Prelude.{◌≡◌, ◌++◌, ◌∷◌, [], IfOk};
-ghost use Rattle.std.specs.Option.{option_copied};
 ghost use Rattle.gb_typing.specs.Programs.{locals_of};
 ghost use Rattle.gb_inline.specs.Expanded.{each_set, expanded, in_place, result_set};
 ghost use Rattle.gb_inline.specs.Renamed as renamed;
@@ -9,8 +8,8 @@ ghost use Rattle.gb_walk.specs.Change.{term_changed};
 
 use crate::fresh::{Renaming, new_names};
 use crate::renamed::{reads_renamed, with_renamed};
-use gb_core::SharedItems;
 use gb_core::var::Var;
+use gb_core::{Shared, SharedItems};
 use gb_forms::firsts::with_firsts;
 use gb_mods::order::with_variables;
 use gb_terms::decl::{Proc, Typed};
@@ -105,15 +104,16 @@ fn locals_of(alloc: Global, procedure: &Proc) -> Result<Typed, AllocError>
 pub fn expanded(
     alloc: Global,
     used: &[Var],
-    procedure: Option<&Proc>,
+    procedure: Option<Shared<Proc>>,
     targets: &SharedItems<Var>,
     args: &[Term],
 ) -> Result<Option<Instrs>, AllocError>
-    ensures { IfOk result (λ made. made ≡ expanded used.now (option_copied procedure.entry) targets.now args.now) }
+    ensures { IfOk result (λ made. made ≡ expanded used.now procedure targets.now args.now) }
 {
     let Some(procedure) = procedure else {
         return Ok(None);
     };
+    let procedure = procedure.get();
     let used = with_variables(alloc, Items::new(alloc), used)?;
     let locals = locals_of(alloc, procedure)?;
     let Some(names) = new_names(alloc, used, locals.as_slice())? else {

@@ -1,23 +1,21 @@
 //! Bodies in place of calls.
 
 ghost use Rattle.std.specs.Prelude.{◌≡◌, ◌++◌, ◌∷◌, [], IfOk};
-ghost use Rattle.std.specs.Option.{option_copied};
-ghost use Rattle.gb_mods.specs.Called.{same_procedure};
 ghost use Rattle.gb_inline.specs.Inlined.{asked, each_inlined, inlined, is_asked, statement_inlined, used, without_calls};
 ghost use Rattle.gb_inline.specs.Asking.{expansion, once_asked};
 
 use crate::expanded::expanded;
 use gb_call::reads::variables_read;
-use gb_core::SharedItems;
-use gb_core::same::same_name;
 use gb_core::var::{Var, Vars};
+use gb_core::{Shared, SharedItems};
 use gb_ended::loops::unproved_of;
 use gb_goal::scope::Scope;
+use gb_mods::called::same_procedure;
 use gb_mods::order::with_variables;
 use gb_mods::touched::touched;
 use gb_steps::step::Calls;
 use gb_terms::decl::Proc;
-use gb_terms::module::{Mexp, ProcRef};
+use gb_terms::module::ProcRef;
 use gb_terms::op::Side;
 use gb_terms::term::{Cmd, Form, Instr, Instrs, Term};
 use gb_trans::swap::with_statements;
@@ -35,16 +33,6 @@ pub struct Asking<'a> {
     pub post: &'a Form,
 }
 
-/// Whether both mean the same procedure of a module that they name by its name alone.
-fn same_procedure(a: &ProcRef, b: &ProcRef) -> bool
-    ensures { result ≡ same_procedure a.now b.now }
-{
-    match (&a.module, &b.module) {
-        (Mexp::Name(m), Mexp::Name(n)) => same_name(m, n) && same_name(&a.name, &b.name),
-        _ => false,
-    }
-}
-
 /// Whether a call is one of those that are asked for.
 fn is_asked(calls: &Calls, procedure: &ProcRef) -> bool
     ensures { result ≡ is_asked calls.now procedure.now }
@@ -56,20 +44,20 @@ fn is_asked(calls: &Calls, procedure: &ProcRef) -> bool
 }
 
 /// The declared procedure of a call that is asked for, unless it has loops that aren't proved.
-fn asked<'a>(
+fn asked(
     alloc: Global,
-    scope: &'a Scope,
+    scope: &Scope,
     calls: &Calls,
     procedure: &ProcRef,
-) -> Result<Option<&'a Proc>, AllocError>
-    ensures { IfOk result (λ made. option_copied made ≡ asked scope.now calls.now procedure.now) }
+) -> Result<Option<Shared<Proc>>, AllocError>
+    ensures { IfOk result (λ made. made ≡ asked scope.now calls.now procedure.now) }
 {
     if !is_asked(calls, procedure) {
         return Ok(None);
     }
     match unproved_of(alloc, scope, procedure)? {
         Some(_) => Ok(None),
-        None => Ok(scope.procedure(procedure)),
+        None => scope.procedure(alloc, procedure),
     }
 }
 

@@ -1,16 +1,13 @@
 -- The programs that the bodies of judgments are.
 use Rattle.std.specs.Prelude.{List, [], ◌∷◌, Option, Some, None}
 use Rattle.gb_core.specs.declared.var.Var.{Var}
-use Rattle.gb_terms.specs.declared.term.Term.{Term, Row_of-Term, end_of-Term, more_of-Term}
+use Rattle.gb_terms.specs.declared.term.Term.{Term}
 use Rattle.gb_terms.specs.declared.term.Instr.{Instr, Row_of-Instr, end_of-Instr, more_of-Instr}
 use Rattle.gb_terms.specs.declared.term.Head.TheVariants.{Assign, Sample, Call', If', While'}
+pub use Rattle.gb_terms.specs.Rows.{terms_in}
 use Rattle.gb_meaning.specs.Program.{Program, Routine}
 use Rattle.gb_meaning.specs.Program.Program.{done, assign, sample, branch, loop, call}
 use Rattle.gb_meaning.specs.Setting.{Setting}
-
-abbrev pub terms_in : {n : _} → Row_of-Term n → List Term
-terms_in end_of-Term = []
-terms_in (more_of-Term t ts) = t ∷ terms_in ts
 
 -- a call carries the procedure; a call of a procedure that there isn't is left out
 abbrev pub called : List Var → Option Routine → List Term → Program → Program

@@ -1,25 +1,30 @@
 -- Loops that are proved are good in each model of a sound scope.
-use Rattle.std.proofs.Common.{◌≡◌, Bool, true, false, ◌||◌, if◌then◌else◌, [], ◌∷◌, ◌++◌, Option, Some, None, bytes_eq, refl, ap, sym, ◌∙◌, subst}
+use Rattle.std.proofs.Common.{◌≡◌, Bool, true, false, ◌||◌, if◌then◌else◌, List, [], ◌∷◌, ◌++◌, Option, Some, None, bytes_eq, refl, ap, sym, ◌∙◌, subst}
+use Rattle.std.specs.Option.{option_map}
 use Rattle.std.proofs.lemmas.Bool.{and_parts, false≢true}
 use Rattle.std.proofs.lemmas.List.{append_assoc, append-nil}
 use Rattle.std.proofs.lemmas.Option.{same_Some}
 use Rattle.std.proofs.lemmas.Slice.Eq.{bytes_eq-Decides}
+use Rattle.gb_terms.specs.declared.decl.Module.{Module}
+use Rattle.gb_terms.specs.declared.decl.Param.{Param}
 use Rattle.gb_terms.specs.declared.decl.Proc.{Proc}
 use Rattle.gb_goal.specs.declared.scope.Entry.{Entry}
 use Rattle.gb_goal.specs.declared.scope.Entry.TheVariants as entry
 use Rattle.gb_goal.specs.declared.scope.ProcName.{ProcName}
+use Rattle.gb_goal.specs.Interfaces.{of_module as interface_from}
 use Rattle.gb_goal.specs.Scope as scope
 use Rattle.gb_goal.specs.Scope.{as_module, entry_of, is_proof_for, is_proved, is_the_same, module_of, path_of, proc_in, proc_of}
 use Rattle.gb_meaning.specs.Commands.{statements}
 use Rattle.gb_meaning.specs.Names.{Name}
-use Rattle.gb_holds.specs.Declared.{Declarations, Declaration, declared, terminating}
+use Rattle.gb_holds.specs.Declared.{Declarations, Declaration, ModuleType, declared, terminating}
 use Rattle.gb_holds.specs.Holds.{AreSoundAfter, EachArgument, InEachModel, IsSound, IsSoundAfter, IsTerminating, LoopsAreGood, ProcedureIsGood, ProcedureOfIsGood}
 use Rattle.gb_holds.specs.Settings.{Interpretation, setting}
 use Rattle.gb_holds.proofs.Lists.{declared-append}
 use Rattle.gb_typing.specs.Naming.{NoName}
 use Rattle.gb_typing.specs.Formulas.{IsKnown}
 use Rattle.gb_typing.specs.Modules.{Interface}
-use Rattle.gb_typing.specs.Scopes.{AreTypedAfter, HasProcedure, IsTypedScope, context_of, is_declared, nothing}
+use Rattle.gb_typing.specs.Scopes.{AreTypedAfter, HasProcedure, IsTypedScope, context_of, interface_with, is_declared, nothing, procedure_types}
+use Rattle.gb_typing.proofs.Located.{known_in_scope}
 use Rattle.gb_models.specs.Speaking.{ScopeSpeaks}
 use Rattle.gb_models.proofs.LinkedNames.{none_some}
 use Rattle.gb_models.proofs.Staying.{split}
@@ -80,32 +85,51 @@ known_there : (o : Option Interface) (f : Name) → HasProcedure o f → IsKnown
 known_there None f h = absurd h
 known_there (Some i) f h = tt
 
+-- where it is said that the loops of a procedure are proved
+module _ (ds : scope.Declarations) (scoped : IsTypedScope (declared ds)) (p : ProcName) (x : IsPlaced ds (path_of p) (entry.Terminating p)) where
+  abbrev behind : scope.Declarations
+  behind = (path_of p, entry.Terminating p) ∷ x.after
+
+  same : declared ds ≡ declared x.before ++ (path_of p, terminating p) ∷ declared x.after
+  same = ap declared x.place ∙ declared-append x.before behind
+
+  parted : IsTypedScope (declared x.before) × AreTypedAfter (context_of (declared x.before)) (declared x.before) (declared behind)
+  parted = split (declared x.before) (declared behind) [] nothing (subst IsTypedScope same scoped)
+
+  stands : is_declared (declared x.before) p.module ≡ true
+  stands = (knows (declared x.before) parted.0).0 p.module (known_there ((context_of (declared x.before)).modules.interfaces p.module) p.name parted.1.1)
+
+  -- its module stands before
+  found_before : module_of x.before p.module ≡ module_of ds p.module
+  found_before = ap as_module (sym (found_front x.before behind p.module stands)) ∙ ap (λ z. module_of z p.module) (sym x.place)
+
+  lacks_none : (types : Name → Option ModuleType) (ps : List Param) (fs : List Proc) (f : Name) → HasProcedure (Some (interface_with types ps (procedure_types fs))) f → ps ≡ []
+  lacks_none types [] fs f h = refl
+  lacks_none types (q ∷ ps) fs f h = absurd h
+
+  -- and has no parameters
+  plain_there : (m : Module) → module_of ds p.module ≡ Some m → m.params ≡ []
+  plain_there m e =
+      let c = context_of (declared x.before) in
+      let known = known_in_scope x.before parted.0 p.module (interface_from m) (ap (option_map interface_from) (found_before ∙ e)) in
+      lacks_none c.modules.types m.params m.procs p.name (subst (λ o. HasProcedure o p.name) known parted.1.1)
+
+-- a procedure whose loops are proved is one of a module without parameters
+pub proved_plain : (ds : scope.Declarations) → IsTypedScope (declared ds) → (p : ProcName) → is_proved ds p ≡ true → (m : Module) → module_of ds p.module ≡ Some m → m.params ≡ []
+proved_plain ds scoped p e = plain_there ds scoped p (placed ds (path_of p) (entry.Terminating p) (proof_is p (entry_of ds (path_of p)) e))
+
 module _ (ds : scope.Declarations) (scoped : IsTypedScope (declared ds)) (sound : IsSound (declared ds)) (spoken : ScopeSpeaks NoName (declared ds)) (p : ProcName) (a : Proc)
     (there : proc_in (module_of ds p.module) p.name ≡ Some a) where
   at_place : IsPlaced ds (path_of p) (entry.Terminating p) → IsTerminating (declared ds) p.module p.name
   at_place x =
       subst (λ z. IsTerminating (declared z) p.module p.name) (sym x.place)
-      (loops_stay_by behind x.before (subst (λ z. IsTypedScope (declared z)) x.place scoped) (subst (λ z. ScopeSpeaks NoName (declared z)) x.place spoken) p.module p.name a before_there proved)
+      (loops_stay_by (behind ds scoped p x) x.before (subst (λ z. IsTypedScope (declared z)) x.place scoped) (subst (λ z. ScopeSpeaks NoName (declared z)) x.place spoken) p.module p.name a before_there proved)
     where
-      behind : scope.Declarations
-      behind = (path_of p, entry.Terminating p) ∷ x.after
-
-      same : declared ds ≡ declared x.before ++ (path_of p, terminating p) ∷ declared x.after
-      same = ap declared x.place ∙ declared-append x.before behind
-
       proved : IsTerminating (declared x.before) p.module p.name
-      proved = promised (declared x.before) (declared x.after) (path_of p, terminating p) [] (subst IsSound same sound)
-
-      parted : IsTypedScope (declared x.before) × AreTypedAfter (context_of (declared x.before)) (declared x.before) (declared behind)
-      parted = split (declared x.before) (declared behind) [] nothing (subst IsTypedScope same scoped)
-
-      stands : is_declared (declared x.before) p.module ≡ true
-      stands = (knows (declared x.before) parted.0).0 p.module (known_there ((context_of (declared x.before)).modules.interfaces p.module) p.name parted.1.1)
+      proved = promised (declared x.before) (declared x.after) (path_of p, terminating p) [] (subst IsSound (same ds scoped p x) sound)
 
       before_there : proc_in (module_of x.before p.module) p.name ≡ Some a
-      before_there =
-          ap (λ o. proc_in (as_module o) p.name) (sym (found_front x.before behind p.module stands))
-          ∙ ap (λ z. proc_in (module_of z p.module) p.name) (sym x.place) ∙ there
+      before_there = ap (λ o. proc_in o p.name) (found_before ds scoped p x) ∙ there
 
   -- the loops of a procedure that is proved are good in each model
   module _ (h : IsTerminating (declared ds) p.module p.name) where

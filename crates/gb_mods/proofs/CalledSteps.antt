@@ -9,8 +9,7 @@ use Rattle.gb_terms.specs.declared.term.Term.{Term}
 use Rattle.gb_terms.specs.declared.term.Head.TheBlock as B
 use Rattle.gb_terms.specs.declared.term.Head.TheVariants.{If, While}
 use Rattle.gb_terms.specs.declared.term.Instr.{Instr, Row_of-Instr, end_of-Instr, more_of-Instr}
-use Rattle.gb_goal.specs.Scope.{Declarations}
-use Rattle.gb_mods.specs.Called.{added, called, calls, is_among, reached, row_calls, statement_calls}
+use Rattle.gb_mods.specs.Called.{added, calls, is_among, reached, row_calls, statement_calls}
 use mathlib.Core.Former.{Count}
 
 calls_row : {n : Count} (r : Row_of-Instr n) → row_calls r ≡ calls (items-the_row-Instr _ r)
@@ -39,27 +38,31 @@ added_longer ps (q ∷ qs) = step (is_among ps q) (added_longer ps qs) (added_lo
     step true h k = h
     step false h k = let l = length-append ps (q ∷ []) in omega (arith, k, l)
 
+-- what procedures call themselves
+abbrev pub Follow : Type 0
+Follow = List ProcRef → List ProcRef
+
 -- all calls are followed
-pub reached_end : (n : ℕ) (ds : Declarations) (k : ℕ) (ps : List ProcRef) → 0 < n → k ≡ length ps → reached n ds k ps ≡ Some ps
+pub reached_end : (n : ℕ) (f : Follow) (k : ℕ) (ps : List ProcRef) → 0 < n → k ≡ length ps → reached n f k ps ≡ Some ps
 unfolding reached
-reached_end zero ds k ps h e = absurd (omega (arith, h))
-reached_end (suc n) ds k ps h e = λ i. if (Decides-eqb k (length ps)).1 e i then Some ps else reached n ds (length ps) (added ps (called ds (drop k ps)))
+reached_end zero f k ps h e = absurd (omega (arith, h))
+reached_end (suc n) f k ps h e = λ i. if (Decides-eqb k (length ps)).1 e i then Some ps else reached n f (length ps) (added ps (f (drop k ps)))
 
 -- there are more calls
-pub reached_over : (n : ℕ) (ds : Declarations) (k : ℕ) (ps : List ProcRef) → n ≡ 0 → reached n ds k ps ≡ None
+pub reached_over : (n : ℕ) (f : Follow) (k : ℕ) (ps : List ProcRef) → n ≡ 0 → reached n f k ps ≡ None
 unfolding reached
-reached_over zero ds k ps e = refl
-reached_over (suc n) ds k ps e = absurd (omega (arith, e))
+reached_over zero f k ps e = refl
+reached_over (suc n) f k ps e = absurd (omega (arith, e))
 
 -- one level further
-pub reached_next : (n : ℕ) (ds : Declarations) (k : ℕ) (ps : List ProcRef) → 0 < n → k ≢ length ps →
-    reached n ds k ps ≡ reached (n - 1) ds (length ps) (added ps (called ds (drop k ps)))
+pub reached_next : (n : ℕ) (f : Follow) (k : ℕ) (ps : List ProcRef) → 0 < n → k ≢ length ps →
+    reached n f k ps ≡ reached (n - 1) f (length ps) (added ps (f (drop k ps)))
 unfolding reached
-reached_next zero ds k ps h e = absurd (omega (arith, h))
-reached_next (suc n) ds k ps h e =
+reached_next zero f k ps h e = absurd (omega (arith, h))
+reached_next (suc n) f k ps h e =
     let m : n ≡ suc n - 1 = omega arith in
-    let f : (k == length ps) ≡ false = not_same (k == length ps) refl in
-    (λ i. if f i then Some ps else reached n ds (length ps) (added ps (called ds (drop k ps)))) ∙ ap (λ z. reached z ds (length ps) (added ps (called ds (drop k ps)))) m
+    let g : (k == length ps) ≡ false = not_same (k == length ps) refl in
+    (λ i. if g i then Some ps else reached n f (length ps) (added ps (f (drop k ps)))) ∙ ap (λ z. reached z f (length ps) (added ps (f (drop k ps)))) m
   where
     not_same : (b : Bool) → (k == length ps) ≡ b → b ≡ false
     not_same true g = absurd (e ((Decides-eqb k (length ps)).0 g))

@@ -5,11 +5,11 @@ use Rattle.std.proofs.lemmas.Bool.{and_parts}
 use Rattle.std.proofs.lemmas.Bool.Decides.{Decides-eqb}
 use Rattle.std.proofs.lemmas.Option.{same_Some, none-some}
 use Rattle.std.proofs.lemmas.Slice.Eq.{bytes_eq-Decides}
-use Rattle.gb_terms.specs.declared.module.Mexp.{Mexp}
-use Rattle.gb_terms.specs.declared.module.Mexp.TheVariants.{Name, Apply'}
 use Rattle.gb_terms.specs.declared.module.ProcRef.{ProcRef}
+use Rattle.gb_terms.specs.SameModules.{mexp_eq}
+use Rattle.gb_terms.proofs.SameModules.{mexp_eq-Decides}
 use Rattle.gb_goal.specs.Scope.{Declarations, procedure_of}
-use Rattle.gb_mods.specs.Called.{added, called, called_by, is_among, reached, same_module, same_procedure}
+use Rattle.gb_mods.specs.Called.{added, called, called_by, is_among, reached, same_procedure}
 
 -- q is one of these
 abbrev pub IsIn : List ProcRef → ProcRef → Type 0
@@ -34,14 +34,10 @@ in_either (p ∷ ps) qs q (inr h) = later (in_either ps qs q h)
     later (inl k) = inl (inr k)
     later (inr k) = inr k
 
-module_same : (m n : Mexp) → same_module m n ≡ true → m ≡ n
-module_same (Name x) (Name y) e = ap Name ((bytes_eq-Decides x y).0 e)
-module_same _ _ e = cc
-
 pub procedure_same : (p q : ProcRef) → same_procedure p q ≡ true → p ≡ q
 procedure_same p q e =
-    let k = and_parts (same_module p.module q.module) (bytes_eq p.name q.name) e in
-    λ i. record { «module» = module_same p.module q.module k.0 i; name = (bytes_eq-Decides p.name q.name).0 k.1 i }
+    let k = and_parts (mexp_eq p.module q.module) (bytes_eq p.name q.name) e in
+    λ i. record { «module» = (mexp_eq-Decides p.module q.module).0 k.0 i; name = (bytes_eq-Decides p.name q.name).0 k.1 i }
 
 among_in : (ps : List ProcRef) (q : ProcRef) → is_among ps q ≡ true → IsIn ps q
 among_in [] q e = cc
@@ -102,7 +98,7 @@ module _ (ds : Declarations) where
     pub closed : AreFollowed qs qs
     pub there : (p : ProcRef) → IsIn ps p → IsIn qs p
 
-  pub reached_closed : (n : ℕ) (fs ws : List ProcRef) → AreFollowed fs (fs ++ ws) → (qs : List ProcRef) → reached n ds (length fs) (fs ++ ws) ≡ Some qs → AreReached (fs ++ ws) qs
+  pub reached_closed : (n : ℕ) (fs ws : List ProcRef) → AreFollowed fs (fs ++ ws) → (qs : List ProcRef) → reached n (called ds) (length fs) (fs ++ ws) ≡ Some qs → AreReached (fs ++ ws) qs
   unfolding reached
   reached_closed zero fs ws h qs e = absurd (none-some qs e)
   reached_closed (suc n) fs ws h qs e = step (length fs == length (fs ++ ws)) refl e (reached_closed n (fs ++ ws))
@@ -120,17 +116,17 @@ module _ (ds : Declarations) where
           by_place (inl j) = added_front ps more q (h p j q k)
           by_place (inr j) = added_all ps more q (subst (λ z. IsIn (called ds z) q) (sym (drop_front fs ws)) (in_called ws p q j k))
 
-      step : (b : Bool) → (length fs == length ps) ≡ b → (if b then Some ps else reached n ds (length ps) (added ps more)) ≡ Some qs →
-          ((cs : List ProcRef) → AreFollowed ps (ps ++ cs) → (zs : List ProcRef) → reached n ds (length ps) (ps ++ cs) ≡ Some zs → AreReached (ps ++ cs) zs) → AreReached ps qs
+      step : (b : Bool) → (length fs == length ps) ≡ b → (if b then Some ps else reached n (called ds) (length ps) (added ps more)) ≡ Some qs →
+          ((cs : List ProcRef) → AreFollowed ps (ps ++ cs) → (zs : List ProcRef) → reached n (called ds) (length ps) (ps ++ cs) ≡ Some zs → AreReached (ps ++ cs) zs) → AreReached ps qs
       step true f g go =
           let none : ws ≡ [] = none_behind fs ws ((Decides-eqb (length fs) (length ps)).0 f) in
           let same : fs ≡ ps = sym (append-nil fs) ∙ ap (λ z. fs ++ z) (sym none) in
           subst (AreReached ps) (same_Some ps qs g) (record { closed = subst (λ z. AreFollowed z ps) same h; there = λ p i. i })
       step false f g go =
           let k = added_behind ps more in
-          let r = go k.0 (subst (AreFollowed ps) k.1 followed) qs (ap (reached n ds (length ps)) (sym k.1) ∙ g) in
+          let r = go k.0 (subst (AreFollowed ps) k.1 followed) qs (ap (reached n (called ds) (length ps)) (sym k.1) ∙ g) in
           record { closed = r.closed; there = λ p i. r.there p (in_front ps k.0 p i) }
 
   -- what procedures reach
-  pub all_closed : (ps qs : List ProcRef) → reached (2 ^ 32) ds 0 ps ≡ Some qs → AreReached ps qs
+  pub all_closed : (ps qs : List ProcRef) → reached (2 ^ 32) (called ds) 0 ps ≡ Some qs → AreReached ps qs
   all_closed ps qs e = reached_closed (2 ^ 32) [] ps (λ p i. absurd i) qs e

@@ -4,3 +4,4 @@ pub mod TouchedSteps
 pub mod ReadSteps
 pub mod WrittenSteps
 pub mod Closed
+pub mod Meeting

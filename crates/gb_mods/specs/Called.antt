@@ -2,11 +2,10 @@
 use Rattle.std.specs.Prelude.{ℕ, zero, suc, ◌^◌, ◌==◌, Bool, false, ◌&&◌, if◌then◌else◌, List, [], ◌∷◌, ◌++◌, drop, length, Option, Some, None, bytes_eq}
 use Rattle.std.specs.List.{list_any}
 use Rattle.gb_terms.specs.declared.decl.Proc.{Proc}
-use Rattle.gb_terms.specs.declared.module.Mexp.{Mexp}
-use Rattle.gb_terms.specs.declared.module.Mexp.TheVariants.{Name}
 use Rattle.gb_terms.specs.declared.module.ProcRef.{ProcRef}
 use Rattle.gb_terms.specs.declared.term.Head.TheVariants.{Call', If', While'}
 use Rattle.gb_terms.specs.declared.term.Instr.{Instr, Row_of-Instr, end_of-Instr, more_of-Instr}
+use Rattle.gb_terms.specs.SameModules.{mexp_eq}
 use Rattle.gb_goal.specs.Scope.{Declarations, procedure_of}
 
 abbrev mutual
@@ -26,13 +25,9 @@ abbrev pub calls : List Instr → List ProcRef
 calls [] = []
 calls (i ∷ is) = statement_calls i ++ calls is
 
-abbrev pub same_module : Mexp → Mexp → Bool
-same_module (Name m) (Name n) = bytes_eq m n
-same_module _ _ = false
-
--- both mean the same procedure of a module that they name by its name alone
+-- both name the same procedure of the same module
 abbrev pub same_procedure : ProcRef → ProcRef → Bool
-same_procedure p q = same_module p.module q.module && bytes_eq p.name q.name
+same_procedure p q = mexp_eq p.module q.module && bytes_eq p.name q.name
 
 abbrev pub is_among : List ProcRef → ProcRef → Bool
 is_among ps q = list_any (λ p. same_procedure p q) ps
@@ -52,11 +47,12 @@ called ds [] = []
 called ds (p ∷ ps) = called_by (procedure_of ds p) ++ called ds ps
 
 -- Procedures, of which the calls of the first k are known to be among them: with those that the others call, those that these call,
--- and so on. None where there are more after so many calls.
-unfoldable pub reached : ℕ → Declarations → ℕ → List ProcRef → Option (List ProcRef)
-reached zero ds k ps = None
-reached (suc n) ds k ps = if k == length ps then Some ps else reached n ds (length ps) (added ps (called ds (drop k ps)))
+-- and so on, where it is known what procedures call themselves. None where there are more after so many calls.
+unfoldable pub reached : ℕ → (List ProcRef → List ProcRef) → ℕ → List ProcRef → Option (List ProcRef)
+reached zero f k ps = None
+reached (suc n) f k ps = if k == length ps then Some ps else reached n f (length ps) (added ps (f (drop k ps)))
 
--- Procedures, and behind them all that they call, through every procedure. (They are known of each script: it has fewer than 2^32.)
+-- Procedures, and behind them all that they call, through every procedure. (They are known of each script: none of its calls go on 2^32
+-- times, each from inside of the one before.)
 abbrev pub all_reached : Declarations → List ProcRef → Option (List ProcRef)
-all_reached ds ps = reached (2 ^ 32) ds 0 ps
+all_reached ds ps = reached (2 ^ 32) (called ds) 0 ps

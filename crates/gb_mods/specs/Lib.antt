@@ -5,3 +5,5 @@ pub mod Read
 pub mod Written
 pub mod Footprint
 pub mod Link
+pub mod Reach
+pub mod Meets

@@ -48,6 +48,6 @@ read_if ds None = None
 read_if ds (Some ps) = option_map (λ xs. joined xs []) (read_by ds ps)
 
 -- The globals that a procedure reads, through every procedure that it calls, in order. It isn't known where one of these isn't
--- declared by its name.
+-- declared.
 unfoldable pub read : Declarations → ProcRef → Option (List Var)
 read ds p = read_if ds (all_reached ds (p ∷ []))

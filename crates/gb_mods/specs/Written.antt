@@ -44,6 +44,6 @@ written_if ds None = None
 written_if ds (Some ps) = option_map (λ xs. joined xs []) (written_by ds ps)
 
 -- The globals that a procedure writes, through every procedure that it calls, in order. It isn't known where one of these isn't
--- declared by its name.
+-- declared.
 unfoldable pub written : Declarations → ProcRef → Option (List Var)
 written ds p = written_if ds (all_reached ds (p ∷ []))

@@ -1,12 +1,14 @@
 //! Which procedures a procedure calls.
 
 ghost use Rattle.std.specs.Prelude.{◌≡◌, ◌++◌, IfOk};
-ghost use Rattle.gb_mods.specs.Called.{added, all_reached, called, calls, is_among, same_procedure, statement_calls};
+ghost use Rattle.gb_mods.specs.Called.{added, all_reached, called, called_by, calls, is_among, same_procedure, statement_calls};
 
 use gb_core::Shared;
 use gb_core::same::same_name;
 use gb_goal::scope::Scope;
-use gb_terms::module::{Mexp, ProcRef};
+use gb_terms::decl::Proc;
+use gb_terms::module::ProcRef;
+use gb_terms::same::same_module;
 use gb_terms::term::Instr;
 use sqlite_items::Items;
 use std::alloc::{AllocError, Global};
@@ -50,14 +52,11 @@ pub fn calls(alloc: Global, found: Procedures, list: &[Instr]) -> Result<Procedu
     Ok(all)
 }
 
-/// Whether both mean the same procedure of a module that they name by its name alone.
+/// Whether both name the same procedure of the same module.
 pub fn same_procedure(a: &ProcRef, b: &ProcRef) -> bool
     ensures { result ≡ same_procedure a.now b.now }
 {
-    match (&a.module, &b.module) {
-        (Mexp::Name(m), Mexp::Name(n)) => same_name(m, n) && same_name(&a.name, &b.name),
-        _ => false,
-    }
+    same_module(&a.module, &b.module) && same_name(&a.name, &b.name)
 }
 
 pub fn is_among(list: &[Shared<ProcRef>], procedure: &ProcRef) -> bool
@@ -84,15 +83,28 @@ pub fn added(found: Procedures, list: &[Shared<ProcRef>]) -> Result<Procedures, 
     Ok(all)
 }
 
+/// Procedures behind others, with those that a procedure calls itself.
+fn called_by(
+    alloc: Global,
+    found: Procedures,
+    procedure: Option<Shared<Proc>>,
+) -> Result<Procedures, AllocError>
+    ensures { IfOk result (λ made. made ≡ found ++ called_by procedure) }
+{
+    match &procedure {
+        Some(f) => calls(alloc, found, f.get().body.list.as_slice()),
+        None => Ok(found),
+    }
+}
+
 /// The procedures that declared ones call themselves.
 fn called(alloc: Global, scope: &Scope, list: &[Shared<ProcRef>]) -> Result<Procedures, AllocError>
     ensures { IfOk result (λ made. made ≡ called scope.now list.now) }
 {
     let mut all = Items::new(alloc);
     for x in list {
-        if let Some(procedure) = scope.procedure(x.get()) {
-            all = calls(alloc, all, procedure.body.list.as_slice())?;
-        }
+        let procedure = scope.procedure(alloc, x.get())?;
+        all = called_by(alloc, all, procedure)?;
     }
     Ok(all)
 }

@@ -8,8 +8,8 @@ use crate::called::{Procedures, all_reached};
 use crate::order::{joined, with_variables};
 use crate::touched::touched_itself;
 use gb_core::Shared;
-use gb_core::name::Name;
 use gb_core::var::Vars;
+use gb_goal::instance::name_of;
 use gb_goal::scope::Scope;
 use gb_terms::decl::{Module, Proc};
 use gb_terms::module::{Mexp, ProcRef};
@@ -22,55 +22,59 @@ pub fn touched(alloc: Global, scope: &Scope, list: &[Shared<ProcRef>]) -> Result
 {
     let mut all = Items::new(alloc);
     for x in list {
-        if let Some(procedure) = scope.procedure(x.get()) {
-            let own = touched_itself(alloc, procedure)?;
+        if let Some(procedure) = scope.procedure(alloc, x.get())? {
+            let own = touched_itself(alloc, procedure.get())?;
             all = with_variables(alloc, all, own.as_slice())?;
         }
     }
     Ok(all)
 }
 
-/// A procedure of a module of this name.
-fn reference(alloc: Global, module: &Name, procedure: &Proc) -> Result<Shared<ProcRef>, AllocError>
+/// A procedure of a module.
+fn reference(alloc: Global, module: &Mexp, procedure: &Proc) -> Result<Shared<ProcRef>, AllocError>
     ensures { IfOk result (λ made. made ≡ reference «module».now procedure.now) }
 {
-    let module = Mexp::Name(module.copy(alloc)?);
+    let module = module.share(alloc)?;
     let name = procedure.name.copy(alloc)?;
     Shared::new(alloc, ProcRef { module, name })
 }
 
-/// Procedures of a module of this name.
-pub fn references(alloc: Global, module: &Name, list: &[Proc]) -> Result<Procedures, AllocError>
+/// Procedures of a module.
+pub fn references(
+    alloc: Global,
+    module: &Mexp,
+    list: &[Shared<Proc>],
+) -> Result<Procedures, AllocError>
     ensures { IfOk result (λ made. made ≡ references «module».now list.now) }
 {
     let mut all = Items::new(alloc);
     for procedure in list {
-        all.push(reference(alloc, module, procedure)?)?;
+        all.push(reference(alloc, module, procedure.get())?)?;
     }
     Ok(all)
 }
 
-/// The procedures of a declared module.
+/// The procedures of a module expression, of which this is the module.
 pub fn procedures(
     alloc: Global,
-    name: &Name,
+    module: &Mexp,
     found: Option<&Module>,
 ) -> Result<Procedures, AllocError>
-    ensures { IfOk result (λ made. made ≡ procedures name.now (option_copied found.entry)) }
+    ensures { IfOk result (λ made. made ≡ procedures «module».now (option_copied found.entry)) }
 {
     match found {
-        Some(found) => references(alloc, name, found.procs.as_slice()),
+        Some(found) => references(alloc, module, found.procs.as_slice()),
         None => Ok(Items::new(alloc)),
     }
 }
 
-/// The footprint of a declared module without parameters, by its name: the globals that its procedures read or write, through every
-/// procedure that they call, in order. None where these are too many to follow, which no script has.
+/// The footprint of a module expression that lacks nothing: the globals that its procedures read or write, through every procedure that
+/// they call, in order. None where these are too many to follow, which no script has.
 #[tactic(auto, unfolding(crate::specs::Footprint::footprint))]
-pub fn footprint(alloc: Global, scope: &Scope, name: &Name) -> Result<Option<Vars>, AllocError>
-    ensures { IfOk result (λ made. made ≡ footprint scope.now name.now) }
+pub fn footprint(alloc: Global, scope: &Scope, module: &Mexp) -> Result<Option<Vars>, AllocError>
+    ensures { IfOk result (λ made. made ≡ footprint scope.now «module».now) }
 {
-    let first = procedures(alloc, name, scope.module(name))?;
+    let first = procedures(alloc, module, scope.module(name_of(module)))?;
     let Some(all) = all_reached(alloc, scope, first)? else {
         return Ok(None);
     };

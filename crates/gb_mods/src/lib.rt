@@ -3,8 +3,10 @@
 
 pub mod called;
 pub mod footprint;
+pub mod meets;
 pub mod order;
 pub mod procedures;
+pub mod reach;
 pub mod read;
 pub mod touched;
 pub mod written;

@@ -53,7 +53,7 @@ fn reached_from(
     all_reached(alloc, scope, first)
 }
 
-/// The globals that a procedure reads, through every procedure that it calls, in order. None where one of these isn't declared by its name.
+/// The globals that a procedure reads, through every procedure that it calls, in order. None where one of these isn't declared.
 #[tactic(auto, unfolding(crate::specs::Read::read))]
 pub fn proc_reads(
     alloc: Global,
@@ -72,7 +72,7 @@ pub fn proc_reads(
     Ok(Some(ordered))
 }
 
-/// The globals that a procedure writes, through every procedure that it calls, in order. None where one of these isn't declared by its name.
+/// The globals that a procedure writes, through every procedure that it calls, in order. None where one of these isn't declared.
 #[tactic(auto, unfolding(crate::specs::Written::written))]
 pub fn proc_writes(
     alloc: Global,
@@ -125,7 +125,7 @@ fn linked_tree(alloc: Global, procedure: &Proc) -> Result<Linked, AllocError>
 pub fn link(alloc: Global, scope: &Scope, procedure: &ProcRef) -> Result<Linked, Refused>
     ensures { Answers (link scope.now procedure.now) result }
 {
-    let Some(declared) = scope.procedure(procedure) else {
+    let Some(declared) = scope.procedure(alloc, procedure)? else {
         let place = Place {
             file: 0,
             line: 0,
@@ -136,6 +136,6 @@ pub fn link(alloc: Global, scope: &Scope, procedure: &ProcRef) -> Result<Linked,
             place,
         });
     };
-    let made = linked_tree(alloc, declared)?;
+    let made = linked_tree(alloc, declared.get())?;
     Ok(made)
 }

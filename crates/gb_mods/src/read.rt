@@ -67,10 +67,10 @@ pub fn read_by(
 {
     let mut all = Items::new(alloc);
     for x in list {
-        let Some(procedure) = scope.procedure(x.get()) else {
+        let Some(procedure) = scope.procedure(alloc, x.get())? else {
             return Ok(None);
         };
-        let own = read_itself(alloc, procedure)?;
+        let own = read_itself(alloc, procedure.get())?;
         all = with_variables(alloc, all, own.as_slice())?;
     }
     Ok(Some(all))

@@ -1,6 +1,7 @@
 //! Which variables statements and procedures write.
 
 ghost use Rattle.std.specs.Prelude.{◌≡◌, ◌++◌, IfOk};
+ghost use Rattle.gb_holds.specs.Footprints.{globals_among};
 ghost use Rattle.gb_mods.specs.Written.{statement_targets, targets, written_by};
 
 use crate::order::{globals_among, with_variables};
@@ -8,6 +9,7 @@ use gb_core::Shared;
 use gb_core::copy::copy_var;
 use gb_core::var::Vars;
 use gb_goal::scope::Scope;
+use gb_terms::decl::Proc;
 use gb_terms::module::ProcRef;
 use gb_terms::term::Instr;
 use sqlite_items::Items;
@@ -47,6 +49,14 @@ pub fn targets(alloc: Global, found: Vars, list: &[Instr]) -> Result<Vars, Alloc
     Ok(all)
 }
 
+/// The globals that a procedure writes itself.
+fn written_itself(alloc: Global, procedure: &Proc) -> Result<Vars, AllocError>
+    ensures { IfOk result (λ made. made ≡ globals_among (targets procedure.now.body.list)) }
+{
+    let found = targets(alloc, Items::new(alloc), procedure.body.list.as_slice())?;
+    globals_among(alloc, found.as_slice())
+}
+
 /// The globals that procedures write themselves. None where one isn't declared.
 pub fn written_by(
     alloc: Global,
@@ -57,11 +67,10 @@ pub fn written_by(
 {
     let mut all = Items::new(alloc);
     for x in list {
-        let Some(procedure) = scope.procedure(x.get()) else {
+        let Some(procedure) = scope.procedure(alloc, x.get())? else {
             return Ok(None);
         };
-        let own = targets(alloc, Items::new(alloc), procedure.body.list.as_slice())?;
-        let own = globals_among(alloc, own.as_slice())?;
+        let own = written_itself(alloc, procedure.get())?;
         all = with_variables(alloc, all, own.as_slice())?;
     }
     Ok(Some(all))

@@ -1,56 +1,58 @@
--- Each loop is good that a procedure of an ended module reaches.
-use Rattle.std.proofs.Common.{◌≡◌, ℕ, inl, inr, Bool, true, false, ◌||◌, if◌then◌else◌, List, [], ◌∷◌, ◌++◌, Option, Some, None, bytes_eq, refl, ap, sym, ◌∙◌, subst}
+-- Each loop is good that a procedure of an ended module reaches, also where modules are given for the module's parameters.
+use Rattle.std.proofs.Common.{◌≡◌, ℕ, inl, inr, Bool, true, false, not, ◌&&◌, ◌||◌, if◌then◌else◌, List, [], ◌∷◌, ◌++◌, Option, Some, None, bytes_eq, refl, ap, sym, ◌∙◌, subst}
 use Rattle.std.proofs.lemmas.Bool.{false≢true}
 use Rattle.std.proofs.lemmas.List.{append_assoc}
 use Rattle.std.proofs.lemmas.Option.{same_Some}
 use Rattle.std.proofs.lemmas.Slice.Eq.{bytes_eq-Decides}
-use Rattle.gb_core.specs.declared.var.Var.{Var}
 use Rattle.gb_terms.specs.declared.decl.Module.{Module}
+use Rattle.gb_terms.specs.declared.decl.Param.{Param}
 use Rattle.gb_terms.specs.declared.decl.Proc.{Proc}
-use Rattle.gb_terms.specs.declared.decl.TypedName.{TypedName}
-use Rattle.gb_terms.specs.declared.module.Mexp.{Mexp}
+use Rattle.gb_terms.specs.declared.module.Mexp.{Mexp, Row_of-Mexp, end_of-Mexp, more_of-Mexp}
 use Rattle.gb_terms.specs.declared.module.Mexp.TheVariants.{Name as named_module, Apply'}
 use Rattle.gb_terms.specs.declared.module.ProcRef.{ProcRef}
 use Rattle.gb_terms.specs.declared.term.Head.TheVariants.{Assign, Sample, Call', If', While'}
 use Rattle.gb_terms.specs.declared.term.Instr.{Instr, Row_of-Instr, end_of-Instr, more_of-Instr}
-use Rattle.gb_terms.specs.declared.term.Term.{Term}
+use Rattle.gb_terms.specs.Rows.{mexps_in}
 use Rattle.gb_goal.specs.declared.scope.Entry.{Entry}
 use Rattle.gb_goal.specs.declared.scope.Entry.TheVariants as entry
-use Rattle.gb_goal.specs.Scope.{Declarations, as_module, entry_of, module_of, proc_at, proc_in, proc_of, procedure_of}
-use Rattle.gb_meaning.specs.Commands.{terms_in}
+use Rattle.gb_goal.specs.Instances.{arguments_of, instance, name_of, put_in_reference, stands_for}
+use Rattle.gb_goal.specs.Interfaces.{suits}
+use Rattle.gb_goal.specs.Scope.{Declarations, as_module, entry_of, is_proved, module_of, proc_at, proc_of, procedure_of}
 use Rattle.gb_meaning.specs.Names.{Name}
 use Rattle.gb_meaning.specs.Setting.{Setting}
 use Rattle.gb_meaning.specs.Values.{World}
 use Rattle.gb_holds.specs.Declared.{declared}
 use Rattle.gb_holds.specs.Holds.{InEachModel, IsModel, IsSound, interpretation}
-use Rattle.gb_holds.specs.Naming.{EachCall, EachCallIn, EachCallOf}
+use Rattle.gb_holds.specs.Naming.{EachCall, EachCallIn, EachCallOf, EachName, EachNameIn}
 use Rattle.gb_holds.specs.Settings.{Table, setting}
-use Rattle.gb_holds.proofs.Lists.{declared-append}
-use Rattle.gb_typing.specs.Naming.{NoName}
-use Rattle.gb_mods.specs.Called.{calls, row_calls, statement_calls}
-use Rattle.gb_mods.proofs.Closed.{IsIn, in_front}
-use Rattle.gb_mods_laws.specs.Members.{CallsAreNamed}
-use Rattle.gb_mods_laws.proofs.Bodies.{each_call as each_called}
 use Rattle.gb_typing.specs.Context.{Context, procedure}
 use Rattle.gb_typing.specs.Formulas.{IsKnown}
-use Rattle.gb_typing.specs.Modules.{Interface, ProcedureType, interface_at, procedure_of as procedure_in}
-use Rattle.gb_typing.specs.Programs.{AreStatements, EachStatement, IsCall, IsProcedure, locals_of}
-use Rattle.gb_typing.specs.Scopes.{AreTypedAfter, IsModule, IsTypedScope, context_of, interface_with, is_declared, nothing, procedure_types}
-use Rattle.gb_prog.specs.Ends.{AreEnded, ReachesGoodLoops}
-use Rattle.gb_mods_laws.proofs.Closed.{procedure_ends}
-use Rattle.gb_typing.specs.Chosen.{AreUnchosen}
+use Rattle.gb_typing.specs.Modules.{Modules, ProcedureType, with_interface}
+use Rattle.gb_typing.specs.Naming.{NoName}
+use Rattle.gb_typing.specs.Programs.{locals_of}
+use Rattle.gb_typing.specs.Scopes.{AreTypedAfter, IsModule, IsTypedScope, context_of, in_module, interface_with, is_declared, nothing, procedure_types}
+use Rattle.gb_typing.specs.Typing.{IsThere}
+use Rattle.gb_typing.proofs.Calls.{each_call as each_typed}
+use Rattle.gb_typing.proofs.DeclaredProcedures.{calls_declared, module_if}
 use Rattle.gb_typing.proofs.LinkedProcedures.{linked_there}
-use Rattle.gb_typing.proofs.Located.{Among, among, earlier_is, with_earlier}
+use Rattle.gb_typing.proofs.Located.{typed_in_scope}
+use Rattle.gb_typing.proofs.Standing.{Among, among, module_place, of_instance, standing, stands}
 use Rattle.gb_models.specs.Speaking.{ScopeSpeaks}
 use Rattle.gb_models.proofs.LinkedNames.{none_some}
-use Rattle.gb_models.proofs.ProvedLoops.{IsPlaced, found_front, placed}
+use Rattle.gb_models.proofs.NamedForms.{reference_known}
 use Rattle.gb_models.proofs.Staying.{split}
-use Rattle.gb_models.proofs.StayingLoops.{IsOf, module_there}
-use Rattle.gb_models.proofs.StayingOn.{knows}
+use Rattle.gb_models.proofs.StayingLoops.{module_there}
 use Rattle.gb_ended.specs.Ended.{first_among, first_at, first_of, first_unproved}
-use Rattle.gb_ended.specs.Loops.{unproved}
-use Rattle.gb_ended.specs.Named.{all_named, is_one, modules_of, name_of, named_by, named_in, with_named}
-use Rattle.gb_mods_laws.proofs.OwnLoops.{IsGoodIn, at_model, first_none_of, in_each, of_module}
+use Rattle.gb_ended.specs.Loops.{named, unproved, unproved_if, unproved_of}
+use Rattle.gb_ended.specs.Named.{all_named, free_of, is_one, modules_of, named_by, named_from, named_in, names_in, other, others, row_names, with_named}
+use Rattle.gb_mods.specs.Called.{calls, row_calls, statement_calls}
+use Rattle.gb_mods.proofs.Closed.{IsIn, in_front}
+use Rattle.gb_prog.specs.Ends.{AreEnded, ReachesGoodLoops}
+use Rattle.gb_mods_laws.proofs.Bodies.{each_call as each_called}
+use Rattle.gb_mods_laws.proofs.Closed.{procedure_ends}
+use Rattle.gb_mods_laws.proofs.Instances.{calls_put, in_map, loops_same}
+use Rattle.gb_mods_laws.proofs.ModuleNames.{EachIn, IsOfNone, each_by, each_map, each_map_in, of_arguments, of_name, put_names, stand_names}
+use Rattle.gb_mods_laws.proofs.OwnLoops.{IsGoodIn, at_model, first_none_of, in_each, none_chosen, own_loops}
 use mathlib.Core.Former.{Count}
 
 -- Names among others.
@@ -78,11 +80,29 @@ one_first n ns = step (bytes_eq n n) ((bytes_eq-Decides n n).1 refl)
     step true e = refl
     step false e = absurd (false≢true e)
 
+-- a name stays where another one is left out
+one_other : (m : Name) (ns : List Name) (k : Name) → bytes_eq k m ≡ false → is_one ns k ≡ true → is_one (others m ns) k ≡ true
+one_other m [] k f e = absurd (false≢true e)
+one_other m (n ∷ ns) k f e = step (bytes_eq k n) refl e (λ e. one_other m ns k f e)
+  where
+    kept : k ≡ n → (b : Bool) → bytes_eq m n ≡ b → is_one ((if b then [] else n ∷ []) ++ others m ns) k ≡ true
+    kept s true q = absurd (false≢true (sym f ∙ (bytes_eq-Decides k m).1 (s ∙ sym ((bytes_eq-Decides m n).0 q))))
+    kept s false q = ap (λ b. b || is_one (others m ns) k) ((bytes_eq-Decides k n).1 s)
+
+    step : (b : Bool) → bytes_eq k n ≡ b → (b || is_one ns k) ≡ true → (is_one ns k ≡ true → is_one (others m ns) k ≡ true) → is_one (other m n ++ others m ns) k ≡ true
+    step true q e go = kept ((bytes_eq-Decides k n).0 q) (bytes_eq m n) refl
+    step false q e go = one_behind (other m n) (others m ns) k (go e)
+
+-- .. and where those of parameters are, if it is none of them
+one_free : (qs : List Param) (ns : List Name) (k : Name) → IsOfNone qs k → is_one ns k ≡ true → is_one (free_of qs ns) k ≡ true
+one_free [] ns k f e = e
+one_free (q ∷ qs) ns k f e = one_free qs (others q.name ns) k f.1 (one_other q.name ns k f.0 e)
+
 with_more : (o : Option Entry) (ns : List Name) (n : Name) → is_one ns n ≡ true → is_one (with_named o ns) n ≡ true
 with_more (Some (entry.Module m)) ns n e = step (is_one ns m.name)
   where
-    step : (b : Bool) → is_one (if b then ns ++ named_in m.procs else ns) n ≡ true
-    step true = one_front ns (named_in m.procs) n e
+    step : (b : Bool) → is_one (if b then ns ++ named_from m else ns) n ≡ true
+    step true = one_front ns (named_from m) n e
     step false = e
 with_more (Some (entry.Lemma q bs)) ns n e = e
 with_more (Some (entry.Type t)) ns n e = e
@@ -103,13 +123,29 @@ all_append [] ys ns = refl
 all_append (x ∷ xs) ys ns = ap (with_named (Some x.1)) (all_append xs ys ns)
 
 -- what a module that is named names is named
-with_module : (m : Module) (ns : List Name) (n : Name) → is_one ns m.name ≡ true → is_one (named_in m.procs) n ≡ true → is_one (with_named (Some (entry.Module m)) ns) n ≡ true
-with_module m ns n e h = subst (λ b. is_one (if b then ns ++ named_in m.procs else ns) n ≡ true) (sym e) (one_behind ns (named_in m.procs) n h)
+with_module : (m : Module) (ns : List Name) (n : Name) → is_one ns m.name ≡ true → is_one (named_from m) n ≡ true → is_one (with_named (Some (entry.Module m)) ns) n ≡ true
+with_module m ns n e h = subst (λ b. is_one (if b then ns ++ named_from m else ns) n ≡ true) (sym e) (one_behind ns (named_from m) n h)
 
-called_named : (ps : List ProcRef) (q : ProcRef) → IsIn ps q → is_one (modules_of ps) (name_of q.«module») ≡ true
-called_named [] q h = absurd h
-called_named (p ∷ ps) q (inl e) = subst (λ (z : ProcRef). is_one (modules_of (p ∷ ps)) (name_of z.«module») ≡ true) e (one_first (name_of p.«module») (modules_of ps))
-called_named (p ∷ ps) q (inr h) = one_behind (name_of p.«module» ∷ []) (modules_of ps) (name_of q.«module») (called_named ps q h)
+-- each name in a module expression is one of its names
+mutual
+  each_one : (m : Mexp) → EachName (λ k. is_one (names_in m) k ≡ true) m
+  each_one (named_module n) = one_first n []
+  each_one (Apply' n j args) = (
+    one_first n (row_names args),
+    each_map_in (λ k. is_one (row_names args) k ≡ true) (λ k. is_one (n ∷ row_names args) k ≡ true) (λ k e. one_behind (n ∷ []) (row_names args) k e) args (each_one_in args),
+  )
+
+  each_one_in : {n : Count} (r : Row_of-Mexp n) → EachNameIn (λ k. is_one (row_names r) k ≡ true) r
+  each_one_in end_of-Mexp = tt
+  each_one_in (more_of-Mexp m r) = (
+    each_map (λ k. is_one (names_in m) k ≡ true) (λ k. is_one (names_in m ++ row_names r) k ≡ true) (λ k e. one_front (names_in m) (row_names r) k e) m (each_one m),
+    each_map_in (λ k. is_one (row_names r) k ≡ true) (λ k. is_one (names_in m ++ row_names r) k ≡ true) (λ k e. one_behind (names_in m) (row_names r) k e) r (each_one_in r),
+  )
+
+called_named : (ps : List ProcRef) (q : ProcRef) → IsIn ps q → (k : Name) → is_one (names_in q.«module») k ≡ true → is_one (modules_of ps) k ≡ true
+called_named [] q h k e = absurd h
+called_named (p ∷ ps) q (inl s) k e = one_front (names_in p.«module») (modules_of ps) k (subst (λ (z : ProcRef). is_one (names_in z.«module») k ≡ true) (sym s) e)
+called_named (p ∷ ps) q (inr h) k e = one_behind (names_in p.«module») (modules_of ps) k (called_named ps q h k e)
 
 procedure_named : (fs : List Proc) (f : Name) (a : Proc) (n : Name) → proc_of fs f ≡ Some a → is_one (named_by a) n ≡ true → is_one (named_in fs) n ≡ true
 procedure_named [] f a n e h = none_some a e
@@ -160,37 +196,6 @@ module _ (P : ProcRef → Type 0) where
   body_all [] h = tt
   body_all (i ∷ is) h = (statement_all i (λ q k. h q (in_front (statement_calls i) (calls is) q k)), body_all is (λ q k. h q (in_behind (statement_calls i) (calls is) q k)))
 
--- A typed body calls procedures that its context knows.
-
-abbrev Knows : Context → ProcRef → Type 0
-Knows c q = (t : ProcedureType) × (procedure c q ≡ Some t)
-
-module _ (c : Context) (ls : List TypedName) where
-  call_known : (xs : List Var) (q : ProcRef) (es : List Term) (o : Option ProcedureType) → procedure c q ≡ o → IsCall c ls xs o es → Knows c q
-  call_known xs q es None e w = absurd w
-  call_known xs q es (Some t) e w = (t, e)
-
-  row_known : {n : Count} (is : Row_of-Instr n) → AreStatements c ls is → EachCallIn (Knows c) is
-  row_known end_of-Instr w = tt
-  row_known (more_of-Instr (Assign xs e) is) w = (tt, row_known is w.1)
-  row_known (more_of-Instr (Sample x d) is) w = (tt, row_known is w.1)
-  row_known (more_of-Instr (Call' xs q n es) is) w = (call_known xs q (terms_in es) (procedure c q) refl w.0, row_known is w.1)
-  row_known (more_of-Instr (If' e m a n b) is) w = ((row_known a w.0.1, row_known b w.0.2), row_known is w.1)
-  row_known (more_of-Instr (While' e v n a) is) w = (row_known a w.0.2, row_known is w.1)
-
-  body_known : (is : List Instr) → EachStatement c ls is → EachCallOf (Knows c) is
-  body_known [] w = tt
-  body_known (Assign xs e ∷ is) w = (tt, body_known is w.1)
-  body_known (Sample x d ∷ is) w = (tt, body_known is w.1)
-  body_known (Call' xs q n es ∷ is) w = (call_known xs q (terms_in es) (procedure c q) refl w.0, body_known is w.1)
-  body_known (If' e m a n b ∷ is) w = ((row_known a w.0.1, row_known b w.0.2), body_known is w.1)
-  body_known (While' e v n a ∷ is) w = (row_known a w.0.2, body_known is w.1)
-
--- a module of which a procedure is known is known
-interface_there : (o : Option Interface) (f : Name) (t : ProcedureType) → procedure_in o f ≡ Some t → (i : Interface) × (o ≡ Some i)
-interface_there None f t e = none_some t e
-interface_there (Some i) f t e = (i, refl)
-
 -- What stands at a place is found by its name.
 
 found_here : (xs ys : Declarations) (n : Name) (e : Entry) → is_declared (declared xs) n ≡ false → entry_of (xs ++ (n, e) ∷ ys) n ≡ Some e
@@ -202,236 +207,236 @@ found_here (x ∷ xs) ys n e h = step (bytes_eq n x.0) h (found_here xs ys n e)
     step true h go = absurd (false≢true (sym h))
     step false h go = go h
 
-module_entry : (o : Option Entry) (m : Module) → as_module o ≡ Some m → o ≡ Some (entry.Module m)
-module_entry (Some (entry.Module x)) m e = ap (λ z. Some (entry.Module z)) (same_Some x m e)
-module_entry (Some (entry.Lemma q bs)) m e = none_some m e
-module_entry (Some (entry.Type t)) m e = none_some m e
-module_entry (Some entry.AbstractType) m e = none_some m e
-module_entry (Some (entry.ModuleType y)) m e = none_some m e
-module_entry (Some (entry.Constant k)) m e = none_some m e
-module_entry (Some (entry.Operator o)) m e = none_some m e
-module_entry (Some (entry.AbstractOperator o)) m e = none_some m e
-module_entry (Some (entry.Terminating p)) m e = none_some m e
-module_entry None m e = none_some m e
+-- an instance isn't proved where its procedure isn't
+unproved_same : (ds : Declarations) (m : Name) (ps : List Param) (es : List Mexp) (a : Proc) → unproved ds m (instance ps es a) ≡ unproved ds m a
+unproved_same ds m ps es a = ap (λ b. if b && not (is_proved ds (named m a)) then Some (named m a) else None) (loops_same (stands_for ps es) a.body.list)
 
-module _ (ds : Declarations) (scoped : IsTypedScope (declared ds)) (sound : IsSound (declared ds)) (spoken : ScopeSpeaks NoName (declared ds)) (named : CallsAreNamed ds) (ns : List Name) where
-  -- a procedure of a module that stands before those of which it is known that they are named, and is one of the names
-  pub record IsNamed (p : ProcRef) : Type 0 where
-    pub module_name : Name
-    pub before : Declarations
-    pub found : Module
-    pub after : Declarations
-    pub place : ds ≡ before ++ (module_name, entry.Module found) ∷ after
-    pub reference : p.«module» ≡ named_module module_name
-    pub one : is_one (all_named after ns) found.name ≡ true
-    pub body : Proc
-    pub there : proc_in (module_of ds module_name) p.name ≡ Some body
+module _ (ds : Declarations) (scoped : IsTypedScope (declared ds)) (sound : IsSound (declared ds)) (spoken : ScopeSpeaks NoName (declared ds)) where
+  -- A module that an ended one names, through all modules between, or the ended one itself.
+  record IsEnded (n : Name) : Type 0 where
+    root : Name
+    ended : first_unproved ds root ≡ None
+    before : Declarations
+    found : Module
+    after : Declarations
+    place : ds ≡ before ++ (n, entry.Module found) ∷ after
+    one : is_one (all_named after (root ∷ [])) found.name ≡ true
 
-  module _ (p : ProcRef) (x : IsNamed p) where
-    abbrev n : Name
-    n = x.module_name
+  module _ (n : Name) (before : Declarations) (found : Module) (after : Declarations) (place : ds ≡ before ++ (n, entry.Module found) ∷ after) where
+    parted : IsTypedScope (declared before) × AreTypedAfter (context_of (declared before)) (declared before) (declared ((n, entry.Module found) ∷ after))
+    parted =
+        split (declared before) (declared ((n, entry.Module found) ∷ after)) [] nothing
+        (subst IsTypedScope (module_place ds n found (record { front = before; after = after; place = place })) scoped)
 
+    typed_at : IsModule (context_of (declared before)) n found
+    typed_at = parted.1.1
+
+    own_name : found.name ≡ n
+    own_name = (let w = typed_at in w.name)
+
+    module_is : module_of ds n ≡ Some found
+    module_is = ap as_module (ap (λ z. entry_of z n) place ∙ found_here before after n (entry.Module found) parted.1.0)
+
+  -- a module that is ended
+  ended_itself : (n : Name) → first_unproved ds n ≡ None → (m : Module) → module_of ds n ≡ Some m → IsEnded n
+  ended_itself n e m there =
+      let l = stands ds n m there in
+      record {
+        root = n;
+        ended = e;
+        before = l.front;
+        found = m;
+        after = l.after;
+        place = l.place;
+        one = all_more l.after (n ∷ []) m.name (subst (λ k. is_one (n ∷ []) k ≡ true) (sym (own_name n l.front m l.after l.place)) (one_first n []));
+      }
+
+  module _ (n : Name) (x : IsEnded n) where
     abbrev c : Context
     c = context_of (declared x.before)
 
-    parted : IsTypedScope (declared x.before) × AreTypedAfter c (declared x.before) (declared ((n, entry.Module x.found) ∷ x.after))
-    parted =
-        split (declared x.before) (declared ((n, entry.Module x.found) ∷ x.after)) [] nothing
-        (subst IsTypedScope (ap declared x.place ∙ declared-append x.before ((n, entry.Module x.found) ∷ x.after)) scoped)
+    abbrev m : Module
+    m = x.found
 
-    typed : IsModule c n x.found
-    typed = parted.1.1
+    module_found : module_of ds n ≡ Some m
+    module_found = module_is n x.before m x.after x.place
 
-    own_name : x.found.name ≡ n
-    own_name = (let w = typed in w.name)
+    -- none of its procedures is unproved
+    none_there : (f : Name) (a : Proc) → proc_of m.procs f ≡ Some a → unproved ds n a ≡ None
+    none_there f a there =
+        let here : is_one (all_named ds (x.root ∷ [])) m.name ≡ true =
+        subst (λ z. is_one z m.name ≡ true) (sym (ap (λ z. all_named z (x.root ∷ [])) x.place ∙ all_append x.before ((n, entry.Module m) ∷ x.after) (x.root ∷ [])))
+        (all_more x.before (with_named (Some (entry.Module m)) (all_named x.after (x.root ∷ []))) m.name (with_more (Some (entry.Module m)) (all_named x.after (x.root ∷ [])) m.name x.one)) in
+        let none_here : first_at ds (all_named ds (x.root ∷ [])) (Some (entry.Module m)) ≡ None =
+        none_at ds (all_named ds (x.root ∷ [])) x.before x.after (n, entry.Module m) (ap (λ z. first_of ds (all_named ds (x.root ∷ [])) z) (sym x.place) ∙ x.ended) in
+        let all_none : first_among ds m.name m.procs ≡ None =
+        sym (ap (λ b. if b then first_among ds m.name m.procs else None) here) ∙ none_here in
+        subst (λ z. unproved ds z a ≡ None) (own_name n x.before m x.after x.place) (none_among ds m.name m.procs all_none f a there)
 
-    module_is : module_of ds n ≡ Some x.found
-    module_is = ap as_module (ap (λ z. entry_of z n) x.place ∙ found_here x.before x.after n (entry.Module x.found) parted.1.0)
+    -- the modules that it knows, and names, are ended
+    earlier : (k : Name) → IsKnown (c.modules.interfaces k) → is_one (named_from m) k ≡ true → IsEnded k
+    earlier k known h =
+        let p = parted n x.before m x.after x.place in
+        let y = module_if x.before p.0 k known in
+        let l = stands x.before k y.0 y.1 in
+        let behind : Declarations = l.after ++ (n, entry.Module m) ∷ x.after in
+        let standing : ds ≡ l.front ++ (k, entry.Module y.0) ∷ behind =
+        x.place ∙ ap (λ v. v ++ (n, entry.Module m) ∷ x.after) l.place ∙ append_assoc l.front ((k, entry.Module y.0) ∷ l.after) ((n, entry.Module m) ∷ x.after) in
+        let k_one : is_one (all_named behind (x.root ∷ [])) k ≡ true =
+        subst (λ v. is_one v k ≡ true) (sym (all_append l.after ((n, entry.Module m) ∷ x.after) (x.root ∷ [])))
+        (all_more l.after (with_named (Some (entry.Module m)) (all_named x.after (x.root ∷ []))) k (with_module m (all_named x.after (x.root ∷ [])) k x.one h)) in
+        record {
+          root = x.root;
+          ended = x.ended;
+          before = l.front;
+          found = y.0;
+          after = behind;
+          place = standing;
+          one = subst (λ z. is_one (all_named behind (x.root ∷ [])) z ≡ true) (sym (own_name k l.front y.0 behind standing)) k_one;
+        }
 
-    procedure_is : proc_of x.found.procs p.name ≡ Some x.body
-    procedure_is =
-        let y = module_there (module_of ds n) p.name x.body x.there in
-        subst (λ (z : Module). proc_of z.procs p.name ≡ Some x.body) (same_Some y.owner x.found (sym y.there ∙ module_is)) y.procedure
+    -- What a procedure of it calls is of ended modules, where modules with such names are given for its parameters.
+    module _ (f : Name) (a : Proc) (there : proc_of m.procs f ≡ Some a) (es : List Mexp) (fit : suits ds m.params es ≡ true) (given : EachIn IsEnded es) where
+      place_there : Among c m [] m.procs f a
+      place_there = among c m m.procs [] (let w = typed_at n x.before m x.after x.place in w.procs) f a there
 
-    -- it isn't unproved where none is
-    is_proved_there : first_of ds (all_named ds ns) ds ≡ None → unproved ds n x.body ≡ None
-    is_proved_there e =
-        let here : is_one (all_named ds ns) x.found.name ≡ true =
-        subst (λ z. is_one z x.found.name ≡ true) (sym (ap (λ z. all_named z ns) x.place ∙ all_append x.before ((n, entry.Module x.found) ∷ x.after) ns))
-        (all_more x.before (with_named (Some (entry.Module x.found)) (all_named x.after ns)) x.found.name (with_more (Some (entry.Module x.found)) (all_named x.after ns) x.found.name x.one)) in
-        let none_here : first_at ds (all_named ds ns) (Some (entry.Module x.found)) ≡ None =
-        none_at ds (all_named ds ns) x.before x.after (n, entry.Module x.found) (ap (λ z. first_of ds (all_named ds ns) z) (sym x.place) ∙ e) in
-        let all_none : first_among ds x.found.name x.found.procs ≡ None =
-        sym (ap (λ b. if b then first_among ds x.found.name x.found.procs else None) here) ∙ none_here in
-        subst (λ z. unproved ds z x.body ≡ None) own_name (none_among ds x.found.name x.found.procs all_none p.name x.body procedure_is)
+      abbrev around : Modules
+      around = with_interface c.modules m.name (Some (interface_with c.modules.types m.params (procedure_types place_there.front)))
 
-    -- what it calls
+      abbrev seen : Context
+      seen = in_module c m (procedure_types place_there.front)
 
-    alone : x.found.params ≡ []
-    alone =
-        let y = module_there (module_of ds n) p.name x.body x.there in
-        subst (λ (z : Module). z.params ≡ []) (same_Some y.owner x.found (sym y.there ∙ module_is)) y.plain
+      Knows : ProcRef → Type 0
+      Knows q = EachName (λ k. IsKnown (seen.modules.interfaces k)) q.«module»
 
-    place_there : Among c x.found [] x.found.procs p.name x.body
-    place_there = among c x.found x.found.procs [] (let w = typed in w.procs) p.name x.body procedure_is
+      knows : (q : ProcRef) (t : ProcedureType) → procedure seen q ≡ Some t → Knows q
+      unfolding Knows
+      knows q t e = reference_known seen q (subst IsThere (sym e) tt)
 
-    abbrev seen : Context
-    seen = with_earlier c n x.found (procedure_types place_there.front)
+      known : EachCallOf Knows a.body.list
+      known = each_typed seen (locals_of a) Knows knows a.body.list (let w = place_there.typed in (let b = w.body in b.statements))
 
-    typed_seen : IsProcedure seen x.body
-    typed_seen = subst (λ z. IsProcedure z x.body) (earlier_is c n x.found own_name alone (procedure_types place_there.front)) place_there.typed
+      -- a name that it has, other than those of its parameters
+      other_ended : (k : Name) → is_one (named_by a) k ≡ true → IsOfNone m.params k → IsKnown (around.interfaces k) → IsEnded k
+      other_ended k h free known = step (bytes_eq k m.name) refl known
+        where
+          step : (b : Bool) → bytes_eq k m.name ≡ b →
+              IsKnown (if b then Some (interface_with c.modules.types m.params (procedure_types place_there.front)) else c.modules.interfaces k) → IsEnded k
+          step true q w = subst IsEnded (sym (own_name n x.before m x.after x.place) ∙ sym ((bytes_eq-Decides k m.name).0 q)) x
+          step false q w = earlier k w (one_free m.params (named_in m.procs) k free (procedure_named m.procs f a k there h))
 
-    known : EachCallOf (Knows seen) x.body.body.list
-    known = body_known seen (locals_of x.body) x.body.body.list (let w = (let v = typed_seen in v.body) in w.statements)
+      call_names : (q : ProcRef) → IsIn (calls a.body.list) q → EachName (λ k. EachName IsEnded (stands_for m.params es k)) q.«module»
+      unfolding Knows
+      call_names q i =
+          each_by (λ k. IsKnown (seen.modules.interfaces k)) (λ k. is_one (names_in q.«module») k ≡ true) (λ k. EachName IsEnded (stands_for m.params es k))
+          (λ k w h.
+          stand_names ds around IsEnded m.params es fit given k w
+          (other_ended k (one_front (modules_of (calls a.body.list)) _ k (called_named (calls a.body.list) q i k h))))
+          q.«module» (each_called Knows a.body.list known q i) (each_one q.«module»)
 
-    module _ (q : ProcRef) (called : IsIn (calls x.body.body.list) q) where
-      own : (k : Name) (b : Proc) → q.«module» ≡ named_module k → k ≡ n → proc_in (module_of ds k) q.name ≡ Some b → IsNamed q
-      own k b r s h = record {
-        module_name = n;
-        before = x.before;
-        found = x.found;
-        after = x.after;
-        place = x.place;
-        reference = r ∙ ap named_module s;
-        one = x.one;
-        body = b;
-        there = subst (λ z. proc_in (module_of ds z) q.name ≡ Some b) s h;
+  -- The procedure of a module expression, as its module declares it: it isn't unproved where that one isn't, and what it calls is of modules
+  -- that are ended where what that one calls is, with the arguments for its module's parameters.
+  record Owned (e : Mexp) (f : Name) (a : Proc) : Type 0 where
+    owner : Module
+    there : module_of ds (name_of e) ≡ Some owner
+    own : Proc
+    procedure : proc_of owner.procs f ≡ Some own
+    fit : suits ds owner.params (arguments_of e) ≡ true
+    same : unproved ds (name_of e) a ≡ unproved ds (name_of e) own
+    names : ((q : ProcRef) → IsIn (calls own.body.list) q → EachName (λ k. EachName IsEnded (stands_for owner.params (arguments_of e) k)) q.«module») →
+        (q : ProcRef) → IsIn (calls a.body.list) q → EachName IsEnded q.«module»
+
+  owned : (e : Mexp) (f : Name) (a : Proc) → proc_at ds e f ≡ Some a → Owned e f a
+  owned (named_module n) f a h =
+      let y = module_there (module_of ds n) f a h in
+      record {
+        owner = y.owner;
+        there = y.there;
+        own = a;
+        procedure = y.procedure;
+        fit = subst (λ ps. suits ds ps [] ≡ true) (sym y.plain) refl;
+        same = refl;
+        names = λ g q i. subst (λ ps. EachName (λ k. EachName IsEnded (stands_for ps [] k)) q.«module») y.plain (g q i);
+      }
+  owned (Apply' n j args) f a h =
+      let y = of_instance ds n f (mexps_in args) a h in
+      let s : Name → Mexp = stands_for y.found.params (mexps_in args) in
+      record {
+        owner = y.found;
+        there = y.there;
+        own = y.own;
+        procedure = y.procedure;
+        fit = y.fit;
+        same = ap (unproved ds n) (sym y.is) ∙ unproved_same ds n y.found.params (mexps_in args) y.own;
+        names = λ g q i.
+            let k = in_map (put_in_reference s) (calls y.own.body.list) q (subst (λ ps. IsIn ps q) (calls_put s y.own.body.list) (subst (λ (z : Proc). IsIn (calls z.body.list) q) (sym y.is) i)) in
+            subst (λ (r : ProcRef). EachName IsEnded r.«module») k.2 (put_names IsEnded s k.0.«module» (g k.0 k.1));
       }
 
-      earlier : (k : Name) (b : Proc) → q.«module» ≡ named_module k → is_declared (declared x.before) k ≡ true → proc_in (module_of ds k) q.name ≡ Some b → IsNamed q
-      earlier k b r d h = record {
-        module_name = k;
-        before = z.before;
-        found = y.owner;
-        after = z.after ++ (n, entry.Module x.found) ∷ x.after;
-        place = standing;
-        reference = r;
-        one = subst (λ m. is_one (all_named (z.after ++ (n, entry.Module x.found) ∷ x.after) ns) m ≡ true) (sym k_name) k_one;
-        body = b;
-        there = h;
-      }
-        where
-          y : IsOf (module_of ds k) q.name b
-          y = module_there (module_of ds k) q.name b h
-
-          z : IsPlaced x.before k (entry.Module y.owner)
-          z =
-              placed x.before k (entry.Module y.owner)
-              (sym (found_front x.before ((n, entry.Module x.found) ∷ x.after) k d) ∙ ap (λ v. entry_of v k) (sym x.place) ∙ module_entry (entry_of ds k) y.owner y.there)
-
-          standing : ds ≡ z.before ++ (k, entry.Module y.owner) ∷ (z.after ++ (n, entry.Module x.found) ∷ x.after)
-          standing =
-              x.place ∙ ap (λ v. v ++ (n, entry.Module x.found) ∷ x.after) z.place
-              ∙ append_assoc z.before ((k, entry.Module y.owner) ∷ z.after) ((n, entry.Module x.found) ∷ x.after)
-
-          k_typed : IsTypedScope (declared z.before) × AreTypedAfter (context_of (declared z.before)) (declared z.before) (declared ((k, entry.Module y.owner) ∷ z.after))
-          k_typed =
-              split (declared z.before) (declared ((k, entry.Module y.owner) ∷ z.after)) [] nothing
-              (subst IsTypedScope (ap declared z.place ∙ declared-append z.before ((k, entry.Module y.owner) ∷ z.after)) parted.0)
-
-          k_name : y.owner.name ≡ k
-          k_name = (let w = k_typed.1.1 in w.name)
-
-          k_called : is_one (named_by x.body) k ≡ true
-          k_called =
-              one_front (modules_of (calls x.body.body.list)) _ k
-              (subst (λ m. is_one (modules_of (calls x.body.body.list)) (name_of m) ≡ true) r (called_named (calls x.body.body.list) q called))
-
-          k_one : is_one (all_named (z.after ++ (n, entry.Module x.found) ∷ x.after) ns) k ≡ true
-          k_one =
-              subst (λ v. is_one v k ≡ true) (sym (all_append z.after ((n, entry.Module x.found) ∷ x.after) ns))
-              (all_more z.after (with_named (Some (entry.Module x.found)) (all_named x.after ns)) k
-              (with_module x.found (all_named x.after ns) k x.one (procedure_named x.found.procs p.name x.body k procedure_is k_called)))
-
-      by_module : (m : Mexp) → q.«module» ≡ m → (b : Proc) → proc_at ds m q.name ≡ Some b → Knows seen q → IsNamed q
-      by_module (Apply' k j args) r b h t = none_some b h
-      by_module (named_module k) r b h t =
-          let e : (j : Interface) × (seen.modules.interfaces k ≡ Some j) =
-          interface_there (seen.modules.interfaces k) q.name t.0 (ap (λ m. procedure_in (interface_at seen.modules m) q.name) (sym r) ∙ t.1) in
-          step (bytes_eq k n) refl e.0 e.1
-        where
-          step : (w : Bool) → bytes_eq k n ≡ w → (j : Interface) →
-              (if w then Some (interface_with c.modules.types x.found.params (procedure_types place_there.front)) else c.modules.interfaces k) ≡ Some j → IsNamed q
-          step true s j e = own k b r ((bytes_eq-Decides k n).0 s) h
-          step false s j e = earlier k b r ((knows (declared x.before) parted.0).0 k (subst IsKnown (sym e) tt)) h
-
-      is_named : (b : Proc) × (procedure_of ds q ≡ Some b) → Knows seen q → IsNamed q
-      is_named b k = by_module q.«module» refl b.0 b.1 k
-
-    callees : EachCallOf IsNamed x.body.body.list
-    callees =
-        body_all IsNamed x.body.body.list
-        (λ q i. is_named q i (each_called (λ q. (b : Proc) × (procedure_of ds q ≡ Some b)) x.body.body.list (named p x.body there_is) q i) (each_called (Knows seen) x.body.body.list known q i))
-      where
-        there_is : procedure_of ds p ≡ Some x.body
-        there_is = subst (λ m. proc_at ds m p.name ≡ Some x.body) (sym x.reference) x.there
-
--- no program is chosen
-none_chosen : (ds : Declarations) → AreUnchosen [] (declared ds)
-none_chosen [] = tt
-none_chosen ((n, entry.Module m) ∷ ds) = (refl, none_chosen ds)
-none_chosen ((n, entry.Lemma q bs) ∷ ds) = none_chosen ds
-none_chosen ((n, entry.Type t) ∷ ds) = none_chosen ds
-none_chosen ((n, entry.AbstractType) ∷ ds) = none_chosen ds
-none_chosen ((n, entry.ModuleType y) ∷ ds) = none_chosen ds
-none_chosen ((n, entry.Constant k) ∷ ds) = none_chosen ds
-none_chosen ((n, entry.Operator o) ∷ ds) = none_chosen ds
-none_chosen ((n, entry.AbstractOperator o) ∷ ds) = none_chosen ds
-none_chosen ((n, entry.Terminating p) ∷ ds) = none_chosen ds
-
-module _ (ds : Declarations) (scoped : IsTypedScope (declared ds)) (sound : IsSound (declared ds)) (spoken : ScopeSpeaks NoName (declared ds)) (named : CallsAreNamed ds) (n : Name)
-    (ended : first_unproved ds n ≡ None) where
+  -- a declared procedure of modules that are ended, or that ended ones name
   abbrev IsOne : ProcRef → Type 0
-  IsOne = IsNamed ds scoped sound spoken named (n ∷ [])
+  IsOne p = EachName IsEnded p.«module» × ((a : Proc) × (procedure_of ds p ≡ Some a))
 
-  first_one : (p : ProcRef) (a : Proc) → p.«module» ≡ named_module n → procedure_of ds p ≡ Some a → IsOne p
-  first_one p a r e = record {
-    module_name = n;
-    before = z.before;
-    found = y.owner;
-    after = z.after;
-    place = z.place;
-    reference = r;
-    one = all_more z.after (n ∷ []) y.owner.name (subst (λ m. is_one (n ∷ []) m ≡ true) (sym own) (one_first n []));
-    body = a;
-    there = there;
-  }
-    where
-      there : proc_in (module_of ds n) p.name ≡ Some a
-      there = subst (λ m. proc_at ds m p.name ≡ Some a) r e
+  module _ (p : ProcRef) (names : EachName IsEnded p.«module») (a : Proc) (there : procedure_of ds p ≡ Some a) where
+    abbrev es : List Mexp
+    es = arguments_of p.«module»
 
-      y : IsOf (module_of ds n) p.name a
-      y = module_there (module_of ds n) p.name a there
+    x : IsEnded (name_of p.«module»)
+    x = of_name IsEnded p.«module» names
 
-      z : IsPlaced ds n (entry.Module y.owner)
-      z = placed ds n (entry.Module y.owner) (module_entry (entry_of ds n) y.owner y.there)
+    o : Owned p.«module» p.name a
+    o = owned p.«module» p.name a there
 
-      parted_here : IsTypedScope (declared z.before) × AreTypedAfter (context_of (declared z.before)) (declared z.before) (declared ((n, entry.Module y.owner) ∷ z.after))
-      parted_here =
-          split (declared z.before) (declared ((n, entry.Module y.owner) ∷ z.after)) [] nothing
-          (subst IsTypedScope (ap declared z.place ∙ declared-append z.before ((n, entry.Module y.owner) ∷ z.after)) scoped)
+    owner_is : o.owner ≡ x.found
+    owner_is = same_Some o.owner x.found (sym o.there ∙ module_found (name_of p.«module») x)
 
-      own : y.owner.name ≡ n
-      own = (let w = parted_here.1.1 in w.name)
+    own_there : proc_of x.found.procs p.name ≡ Some o.own
+    own_there = subst (λ (m : Module). proc_of m.procs p.name ≡ Some o.own) owner_is o.procedure
+
+    fit_there : suits ds x.found.params es ≡ true
+    fit_there = subst (λ (m : Module). suits ds m.params es ≡ true) owner_is o.fit
+
+    -- it isn't unproved
+    is_proved_there : unproved_of ds p ≡ None
+    is_proved_there = ap (unproved_if ds (name_of p.«module»)) there ∙ o.same ∙ none_there (name_of p.«module») x p.name o.own own_there
+
+    -- what it calls is of such modules, too
+    callees : EachCallOf IsOne a.body.list
+    callees =
+        body_all IsOne a.body.list
+        (λ q i. (
+          o.names
+              (λ r j. subst (λ (m : Module). EachName (λ k. EachName IsEnded (stands_for m.params es k)) r.«module») (sym owner_is)
+              (call_names (name_of p.«module») x p.name o.own own_there es fit_there (of_arguments IsEnded p.«module» names) r j)) q i,
+          each_called (λ r. (b : Proc) × (procedure_of ds r ≡ Some b)) a.body.list (calls_declared ds scoped p a there) q i,
+        ))
+
+  -- the modules of a declared procedure are declared
+  all_ended : (p : ProcRef) → EachName (λ n. first_unproved ds n ≡ None) p.«module» → (a : Proc) → procedure_of ds p ≡ Some a → EachName IsEnded p.«module»
+  all_ended p h a there =
+      let c = context_of (declared ds) in
+      let t = typed_in_scope ds scoped p a there in
+      each_by (λ n. first_unproved ds n ≡ None) (λ n. IsKnown (c.modules.interfaces n)) IsEnded (λ n e k. let m = module_if ds scoped n k in ended_itself n e m.0 m.1) p.«module» h
+      (reference_known c p (subst IsThere (sym t.type) tt))
 
   module _ (w : World) (size : Name → ℕ) (table : Table) (model : IsModel (declared ds) (interpretation w size table)) where
     abbrev g : Setting
     g = setting (declared ds) (interpretation w size table)
 
     are_ended : AreEnded ds g IsOne
-    are_ended p x = (
-      x.body,
-      subst (λ m. proc_at ds m p.name ≡ Some x.body) (sym x.reference) x.there,
-      callees ds scoped sound spoken named (n ∷ []) p x,
-      at_model ds scoped sound spoken (IsGoodIn ds scoped sound spoken x.body)
-          (of_module ds scoped sound spoken x.module_name p.name x.body x.there (is_proved_there ds scoped sound spoken named (n ∷ []) p x ended)) w size table model,
+    are_ended p h = (
+      h.1.0,
+      h.1.1,
+      callees p h.0 h.1.0 h.1.1,
+      at_model ds scoped sound spoken (IsGoodIn ds scoped sound spoken h.1.0) (own_loops ds scoped sound spoken p h.1.0 h.1.1 (is_proved_there p h.0 h.1.0 h.1.1)) w size table model,
     )
 
-    all_good : (p : ProcRef) (a : Proc) → p.«module» ≡ named_module n → procedure_of ds p ≡ Some a → ReachesGoodLoops g (g.procedure p)
-    all_good p a r e =
-        procedure_ends g IsOne ds (λ q b h. linked_there ds scoped (interpretation w size table) (none_chosen ds) q b h) are_ended p (first_one p a r e)
+    all_good : (p : ProcRef) → IsOne p → ReachesGoodLoops g (g.procedure p)
+    all_good p h = procedure_ends g IsOne ds (λ q b e. linked_there ds scoped (interpretation w size table) (none_chosen ds) q b e) are_ended p h
 
-  pub ended_reaches : (p : ProcRef) (a : Proc) → p.«module» ≡ named_module n → procedure_of ds p ≡ Some a →
+  -- each loop is good that a procedure of ended modules reaches
+  pub ended_reaches : (p : ProcRef) → EachName (λ n. first_unproved ds n ≡ None) p.«module» → (a : Proc) → procedure_of ds p ≡ Some a →
       InEachModel (declared ds) (λ i. ReachesGoodLoops (setting (declared ds) i) ((setting (declared ds) i).procedure p))
-  ended_reaches p a r e =
-      in_each ds scoped sound spoken (λ i. ReachesGoodLoops (setting (declared ds) i) ((setting (declared ds) i).procedure p)) (λ w size table model. all_good w size table model p a r e)
+  ended_reaches p h a e =
+      in_each ds scoped sound spoken (λ i. ReachesGoodLoops (setting (declared ds) i) ((setting (declared ds) i).procedure p))
+      (λ w size table model. all_good w size table model p (all_ended p h a e, (a, e)))

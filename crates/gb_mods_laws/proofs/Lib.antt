@@ -1,4 +1,6 @@
 pub mod ReadProcedures
+pub mod Instances
+pub mod ModuleNames
 pub mod Members
 pub mod Bodies
 pub mod Ranks

@@ -8,7 +8,7 @@ use Rattle.gb_terms.proofs.Equality.{var_eq-Decides}
 use Rattle.gb_walk.specs.Clash.{comes_before}
 use Rattle.gb_meaning.specs.Names.{path_order}
 use Rattle.gb_meaning.proofs.Maps.{path_order-same}
-use Rattle.gb_holds.specs.Footprints.{globals_among, in_order, inserted, kind, path, var_order}
+use Rattle.gb_holds.specs.Footprints.{globals_among, in_order, inserted, var_order}
 use Rattle.gb_holds.specs.Footprints as ordered
 use Rattle.gb_mods.specs.Order.{joined, placed}
 use Rattle.gb_mods_laws.specs.Members.{Has}

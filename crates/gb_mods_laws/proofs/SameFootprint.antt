@@ -1,26 +1,32 @@
--- The footprint that is computed has the globals of the footprint in the meaning.
+-- The footprint that is computed of a module expression has the globals of its footprint in the meaning.
 use Rattle.std.proofs.Common.{◌≡◌, ◌⊎◌, inl, inr, if◌then◌else◌, ℕ, zero, suc, ◌<◌, ◌==◌, ◌^◌, Bool, true, false, List, [], ◌∷◌, ◌++◌, drop, length, Option, Some, None, bytes_eq, refl, ap, sym, ◌∙◌, subst, arith}
 use Rattle.std.specs.Option.{option_map}
 use Rattle.std.proofs.lemmas.List.{append_assoc, append-nil}
 use Rattle.gb_core.specs.declared.var.Var.{Var}
 use Rattle.gb_terms.specs.declared.decl.Module.{Module}
+use Rattle.gb_terms.specs.declared.decl.Param.{Param}
 use Rattle.gb_terms.specs.declared.decl.Proc.{Proc}
-use Rattle.gb_terms.specs.declared.module.Mexp.TheVariants.{Name as named}
+use Rattle.gb_terms.specs.declared.module.Mexp.{Mexp}
+use Rattle.gb_terms.specs.declared.module.Mexp.TheVariants.{Name as named, Apply'}
 use Rattle.gb_terms.specs.declared.module.ProcRef.{ProcRef}
+use Rattle.gb_goal.specs.Instances.{name_of}
+use Rattle.gb_goal.specs.Interfaces.{Interface, ProcedureType, given, interface_at, interfaces_at, lacking, left_over, of_complete, of_module, procedure_in, procedure_type, procedure_types, type_of_procedure}
 use Rattle.gb_goal.specs.Scope as scope
-use Rattle.gb_goal.specs.Scope.{module_of, proc_if_plain, proc_in, proc_of, procedure_of}
+use Rattle.gb_goal.specs.Scope.{module_of, proc_of, procedure_of}
+use Rattle.gb_goal.proofs.Interfaces.{declared_type}
 use Rattle.gb_meaning.specs.Names.{Name}
 use Rattle.gb_holds.specs.Declared.{declared}
-use Rattle.gb_holds.specs.Footprints.{body_touched, footprint_read, globals_among, in_order, of_all, of_callee, var_order, variables}
+use Rattle.gb_holds.specs.Footprints.{body_touched, footprint_read, of_all, of_callee, variables}
 use Rattle.gb_holds.specs.Footprints as meant
-use Rattle.gb_holds.specs.Modules.{Applied, Modules, Procedures, found, modules_of, no_module, procedure_at, with_module, with_params, with_procedure, with_procedures}
+use Rattle.gb_holds.specs.Modules.{Applied, Functor, Modules, Procedures, found, module_at, module_read, modules_at, modules_of, no_module, procedure_at, with_module, with_params, with_procedure, with_procedures}
 use Rattle.gb_holds.specs.Naming.{IsFreshAmong}
 use Rattle.gb_holds.proofs.Procedures.{in_module}
-use Rattle.gb_typing.proofs.ModulesAlike.{footprint-looks}
 use Rattle.gb_typing.specs.Context.{Context}
-use Rattle.gb_typing.specs.Modules.{ProcedureType}
-use Rattle.gb_typing.specs.Programs.{type_of_procedure}
-use Rattle.gb_typing.specs.Scopes.{nothing, procedure_types, AreProcedures, IsTypedScope}
+use Rattle.gb_typing.specs.Scopes.{nothing, AreProcedures, IsTypedScope}
+use Rattle.gb_typing.proofs.DeclaredProcedures.{calls_declared}
+use Rattle.gb_typing.proofs.Follows.{footprint_follows}
+use Rattle.gb_typing.proofs.InScopes.{found_first}
+use Rattle.gb_typing.proofs.ModulesAlike.{footprint-looks}
 use Rattle.gb_typing.proofs.Scripts.{itself, none_some, same_some}
 use Rattle.gb_mods.specs.Called.{added, called, called_by, calls, is_among, reached}
 use Rattle.gb_mods.specs.Footprint.{procedures, reference, references, touched}
@@ -28,14 +34,14 @@ use Rattle.gb_mods.specs.Footprint as computed
 use Rattle.gb_mods.specs.Order.{joined}
 use Rattle.gb_mods.specs.Touched.{each_touched, touched_itself}
 use Rattle.gb_mods.proofs.Closed.{IsIn, AreReached, all_closed}
-use Rattle.gb_mods_laws.specs.Members.{Has, CallsAreNamed}
+use Rattle.gb_mods_laws.specs.Members.{Has}
 use Rattle.gb_mods_laws.proofs.Bodies.{called_body, each_call, own_body, split_body}
 use Rattle.gb_mods_laws.proofs.FinalModules.{Final, final_module}
 use Rattle.gb_mods_laws.proofs.Members.{either, has_behind, has_either, has_front, in_joined, in_ordered, joined_has, kept, ordered_has, was_there, IsGlobal}
 use Rattle.gb_mods_laws.proofs.Ranks.{falls, rank}
 use Rattle.gb_mods_laws.proofs.ReadProcedures.{read_there}
 
-module _ (ds : scope.Declarations) (scoped : IsTypedScope (declared ds)) (names : CallsAreNamed ds) where
+module _ (ds : scope.Declarations) (scoped : IsTypedScope (declared ds)) where
   abbrev all : Modules (List Var)
   all = modules_of footprint_read (λ k. no_module) (declared ds)
 
@@ -44,7 +50,7 @@ module _ (ds : scope.Declarations) (scoped : IsTypedScope (declared ds)) (names 
   reaches r = of_callee (procedure_at all r)
 
   reaches_is : (r : ProcRef) (p : Proc) → procedure_of ds r ≡ Some p → reaches r ≡ footprint_read (procedure_at all) p
-  reaches_is r p e = ap of_callee (read_there footprint_read footprint-looks (λ k. no_module) ds scoped r p e)
+  reaches_is r p e = ap of_callee (read_there footprint_read footprint-looks footprint_follows (λ k. no_module) ds scoped r p e)
 
   reaches_global : (r : ProcRef) (p : Proc) → procedure_of ds r ≡ Some p → (z : Var) → Has (reaches r) z → IsGlobal z
   reaches_global r p e z h =
@@ -73,7 +79,7 @@ module _ (ds : scope.Declarations) (scoped : IsTypedScope (declared ds)) (names 
 
   reaches_called : (r : ProcRef) (p : Proc) → procedure_of ds r ≡ Some p → (q : ProcRef) → IsIn (calls p.body.list) q → (z : Var) → Has (reaches q) z → Has (reaches r) z
   reaches_called r p e q c z h =
-      let f = each_call (λ q. (f : Proc) × (procedure_of ds q ≡ Some f)) p.body.list (names r p e) q c in
+      let f = each_call (λ q. (f : Proc) × (procedure_of ds q ≡ Some f)) p.body.list (calls_declared ds scoped r p e) q c in
       reaches_body r p e z (reaches_global q f.0 f.1 z h) (has_front (body_touched (procedure_at all) p.body.list) (variables p.value) z (called_body (procedure_at all) z p.body.list q h c))
 
   -- what reached procedures touch themselves
@@ -93,7 +99,7 @@ module _ (ds : scope.Declarations) (scoped : IsTypedScope (declared ds)) (names 
   deep zero ps qs closed r p e l i z h = absurd (omega (arith, l))
   deep (suc d) ps qs closed r p e l i z h =
       either (λ o. touched_by qs r p e i z o)
-      (λ t. let f = each_call (λ q. (f : Proc) × (procedure_of ds q ≡ Some f)) p.body.list (names r p e) t.0 t.1 in
+      (λ t. let f = each_call (λ q. (f : Proc) × (procedure_of ds q ≡ Some f)) p.body.list (calls_declared ds scoped r p e) t.0 t.1 in
       let k = falls ds scoped r p e t.0 t.1 in
       let m : rank ds scoped t.0 < d = omega (arith, k, l) in
       let c = closed.closed in
@@ -133,13 +139,13 @@ module _ (ds : scope.Declarations) (scoped : IsTypedScope (declared ds)) (names 
     all_dropped (suc k) [] h = h
     all_dropped (suc k) (p ∷ ps) h = all_dropped k ps (λ q i. h q (inr i))
 
-    all_reached : (n k : ℕ) (ps qs : List ProcRef) → All ps → reached n ds k ps ≡ Some qs → All qs
+    all_reached : (n k : ℕ) (ps qs : List ProcRef) → All ps → reached n (called ds) k ps ≡ Some qs → All qs
     unfolding reached
     all_reached zero k ps qs h e = none_some qs e
     all_reached (suc n) k ps qs h e = step (k == length ps) e (all_reached n (length ps) (added ps (called ds (drop k ps))) qs (all_added ps (called ds (drop k ps)) h (all_called (drop k ps) (all_dropped k ps h))))
       where
-        step : (b : Bool) → (if b then Some ps else reached n ds (length ps) (added ps (called ds (drop k ps)))) ≡ Some qs →
-            (reached n ds (length ps) (added ps (called ds (drop k ps))) ≡ Some qs → All qs) → All qs
+        step : (b : Bool) → (if b then Some ps else reached n (called ds) (length ps) (added ps (called ds (drop k ps)))) ≡ Some qs →
+            (reached n (called ds) (length ps) (added ps (called ds (drop k ps))) ≡ Some qs → All qs) → All qs
         step true g go = subst All (same_some ps qs g) h
         step false g go = go g
 
@@ -164,26 +170,29 @@ module _ (ds : scope.Declarations) (scoped : IsTypedScope (declared ds)) (names 
   fresh_at c m earlier (x ∷ front) p after w =
       subst (λ xs. found xs p.name ≡ None) (append_assoc earlier ((x.name, type_of_procedure x) ∷ []) (procedure_types front)) (fresh_at c m (earlier ++ (x.name, type_of_procedure x) ∷ []) front p after w.2)
 
-  record Entry (ms : Modules (List Var)) (m : Module) (e : Applied (List Var)) (ps : List Proc) (z : Var) : Type 0 where
-    front : List Proc
-    proc : Proc
-    after : List Proc
-    place : ps ≡ front ++ proc ∷ after
-    has : Has (footprint_read (procedure_at (with_params (with_module ms m.name (with_procedures footprint_read ms m e front)) m.params [])) proc) z
-
   of_all_either : (xs : Procedures (List Var)) (n : Name) (v : List Var) (z : Var) → Has (of_all (xs ++ (n, v) ∷ [])) z → Has (of_all xs) z ⊎ Has v z
   of_all_either [] n v z h = either (λ k. inr k) (λ k. absurd k) (has_either v [] z h)
   of_all_either (x ∷ xs) n v z h =
       either (λ k. inl (has_front x.1 (of_all xs) z k)) (λ k. either (λ j. inl (has_behind x.1 (of_all xs) z j)) (λ j. inr j) (of_all_either xs n v z k)) (has_either x.1 (of_all (xs ++ (n, v) ∷ [])) z h)
 
-  entry_at : (ms : Modules (List Var)) (m : Module) (e : Applied (List Var)) (ps : List Proc) (z : Var) → Has (of_all (with_procedures footprint_read ms m e ps [])) z → Has (of_all (e [])) z ⊎ Entry ms m e ps z
-  entry_at ms m e [] z h = inl h
-  entry_at ms m e (p ∷ ps) z h =
-      either
-      (λ k. either (λ j. inl j) (λ j. inr (record { front = []; proc = p; after = ps; place = refl; has = j }))
-      (of_all_either (e []) p.name (footprint_read (procedure_at (with_params (with_module ms m.name e) m.params [])) p) z k))
-      (λ x. inr (record { front = p ∷ x.front; proc = x.proc; after = x.after; place = ap (λ l. p ∷ l) x.place; has = x.has }))
-      (entry_at ms m (with_procedure footprint_read ms m e p) ps z h)
+  -- .. where its arguments are these
+  module _ (args : List (Functor (List Var))) where
+    record Entry (ms : Modules (List Var)) (m : Module) (e : Applied (List Var)) (ps : List Proc) (z : Var) : Type 0 where
+      front : List Proc
+      proc : Proc
+      after : List Proc
+      place : ps ≡ front ++ proc ∷ after
+      has : Has (footprint_read (procedure_at (with_params (with_module ms m.name (with_procedures footprint_read ms m e front)) m.params args)) proc) z
+
+    entry_at : (ms : Modules (List Var)) (m : Module) (e : Applied (List Var)) (ps : List Proc) (z : Var) → Has (of_all (with_procedures footprint_read ms m e ps args)) z →
+        Has (of_all (e args)) z ⊎ Entry ms m e ps z
+    entry_at ms m e [] z h = inl h
+    entry_at ms m e (p ∷ ps) z h =
+        either
+        (λ k. either (λ j. inl j) (λ j. inr (record { front = []; proc = p; after = ps; place = refl; has = j }))
+        (of_all_either (e args) p.name (footprint_read (procedure_at (with_params (with_module ms m.name e) m.params args)) p) z k))
+        (λ x. inr (record { front = p ∷ x.front; proc = x.proc; after = x.after; place = ap (λ l. p ∷ l) x.place; has = x.has }))
+        (entry_at ms m (with_procedure footprint_read ms m e p) ps z h)
 
   found_has : (xs : Procedures (List Var)) (n : Name) (z : Var) → Has (of_callee (found xs n)) z → Has (of_all xs) z
   found_has [] n z h = absurd h
@@ -197,25 +206,62 @@ module _ (ds : scope.Declarations) (scoped : IsTypedScope (declared ds)) (names 
   first_is [] p after f = ap (λ b. if b then Some p else proc_of after p.name) (itself p.name)
   first_is (x ∷ front) p after f = ap (λ b. if b then Some x else proc_of (front ++ p ∷ after) p.name) f.0 ∙ first_is front p after f.1
 
-  referred : (n : Name) (front : List Proc) (p : Proc) (after : List Proc) → IsIn (references n (front ++ p ∷ after)) (reference n p)
-  referred n [] p after = inl refl
-  referred n (x ∷ front) p after = inr (referred n front p after)
+  referred : (x : Mexp) (front : List Proc) (p : Proc) (after : List Proc) → IsIn (references x (front ++ p ∷ after)) (reference x p)
+  referred x [] p after = inl refl
+  referred x (q ∷ front) p after = inr (referred x front p after)
 
-  referring : (n : Name) (ps : List Proc) (r : ProcRef) → IsIn (references n ps) r → (p : Proc) × (reference n p ≡ r)
-  referring n [] r h = absurd h
-  referring n (p ∷ ps) r (inl e) = (p, e)
-  referring n (p ∷ ps) r (inr h) = referring n ps r h
+  referring : (x : Mexp) (ps : List Proc) (r : ProcRef) → IsIn (references x ps) r → (p : Proc) × (reference x p ≡ r)
+  referring x [] r h = absurd h
+  referring x (p ∷ ps) r (inl e) = (p, e)
+  referring x (p ∷ ps) r (inr h) = referring x ps r h
 
-  module _ (n : Name) (m : Module) (there : module_of ds n ≡ Some m) (plain : m.params ≡ []) where
+  -- A module expression that is known, and the module that it names.
+
+  record IsOf (n : Name) (i : Interface) : Type 0 where
+    owner : Module
+    there : module_of ds n ≡ Some owner
+    types : i.procedures ≡ procedure_types owner.procs
+
+  named_of : (n : Name) (i : Interface) (o : Option Module) → module_of ds n ≡ o → option_map of_module o ≡ Some i → IsOf n i
+  named_of n i None e h = none_some i h
+  named_of n i (Some m) e h = record { owner = m; there = e; types = ap (λ (j : Interface). j.procedures) (sym (same_some (of_module m) i h)) }
+
+  given_of : (n : Name) (i : Interface) (o : Option Module) → module_of ds n ≡ o → (is : List (Option Interface)) → given ds (option_map of_module o) is ≡ Some i → IsOf n i
+  given_of n i None e is h = none_some i h
+  given_of n i (Some m) e is h = step (left_over ds m.params is) h
+    where
+      step : (l : Option (List Param)) → lacking (of_module m) l ≡ Some i → IsOf n i
+      step None h = none_some i h
+      step (Some qs) h = record { owner = m; there = e; types = ap (λ (j : Interface). j.procedures) (sym (same_some (record (of_module m) { lacks = qs }) i h)) }
+
+  known_of : (x : Mexp) (i : Interface) → interface_at ds None x ≡ Some i → IsOf (name_of x) i
+  known_of (named n) i e = named_of n i (module_of ds n) refl e
+  known_of (Apply' n k args) i e = given_of n i (module_of ds n) refl (interfaces_at ds None args) e
+
+  -- the module that it names, with arguments
+  applied : (x : Mexp) → (args : List (Functor (List Var))) × (module_at all x [] ≡ all (name_of x) args)
+  applied (named n) = ([], refl)
+  applied (Apply' n k args) = (modules_at all args ++ [], refl)
+
+  module _ (x : Mexp) (i : Interface) (there : interface_at ds None x ≡ Some i) (full : i.lacks ≡ []) where
+    abbrev known : IsOf (name_of x) i
+    known = known_of x i there
+
+    abbrev m : Module
+    m = known.owner
+
     -- the footprint in the meaning
     abbrev meaning : List Var
-    meaning = meant.footprint all (λ k. false) (named n)
+    meaning = meant.footprint all (λ k. false) x
 
-    start : procedures n (module_of ds n) ≡ references n m.procs
-    start = ap (procedures n) there
+    abbrev start : List ProcRef
+    start = procedures x (module_of ds (name_of x))
 
-    meaning_has : (z : Var) → Has (of_all (all n [])) z → Has meaning z
-    meaning_has z h = ordered_has (of_all (all n [])) z h
+    start_is : start ≡ references x m.procs
+    start_is = ap (procedures x) known.there
+
+    meaning_has : (z : Var) → Has (of_all (module_at all x [])) z → Has meaning z
+    meaning_has z h = ordered_has (of_all (module_at all x [])) z h
 
     IsMeant : ProcRef → Type 0
     IsMeant r = (z : Var) → Has (reaches r) z → Has meaning z
@@ -228,59 +274,80 @@ module _ (ds : scope.Declarations) (scoped : IsTypedScope (declared ds)) (names 
         step None e j = absurd j
         step (Some p) e j = k z (reaches_called r p e q j z h)
 
-    first_meant : (r : ProcRef) → IsIn (procedures n (module_of ds n)) r → IsMeant r
+    first_meant : (r : ProcRef) → IsIn start r → IsMeant r
     unfolding IsMeant
-    first_meant r i z h =
-        let k = referring n m.procs r (subst (λ ps. IsIn ps r) start i) in
-        meaning_has z (found_has (all n []) k.0.name z (subst (λ q. Has (reaches q) z) (sym k.1) h))
+    first_meant r j z h =
+        let k = referring x m.procs r (subst (λ ps. IsIn ps r) start_is j) in
+        meaning_has z (found_has (module_at all x []) k.0.name z (subst (λ q. Has (reaches q) z) (sym k.1) h))
 
     declared_one : (q : ProcRef) (z : Var) (o : Option Proc) → procedure_of ds q ≡ o → Has (touched_itself o) z → (p : Proc) × (procedure_of ds q ≡ Some p) × Has (touched_itself (Some p)) z
     declared_one q z None e h = absurd h
     declared_one q z (Some p) e h = (p, e, h)
 
-    reached_meant : (qs : List ProcRef) → reached (2 ^ 32) ds 0 (procedures n (module_of ds n)) ≡ Some qs → (z : Var) → Has (touched ds qs) z → Has meaning z
+    reached_meant : (qs : List ProcRef) → reached (2 ^ 32) (called ds) 0 start ≡ Some qs → (z : Var) → Has (touched ds qs) z → Has meaning z
     unfolding IsMeant
     reached_meant qs f z h =
         let o = by_one qs z h in
         let p = declared_one o.0 z (procedure_of ds o.0) refl o.2 in
-        all_reached IsMeant called_meant (2 ^ 32) 0 (procedures n (module_of ds n)) qs first_meant f o.0 o.1 z (reaches_own o.0 p.0 p.1 z p.2)
+        all_reached IsMeant called_meant (2 ^ 32) 0 start qs first_meant f o.0 o.1 z (reaches_own o.0 p.0 p.1 z p.2)
 
     -- what is computed is meant
-    pub computed_meant : (xs : List Var) → computed.footprint ds n ≡ Some xs → (z : Var) → Has xs z → Has meaning z
+    pub computed_meant : (xs : List Var) → computed.footprint ds x ≡ Some xs → (z : Var) → Has xs z → Has meaning z
     unfolding computed.footprint
-    computed_meant xs e z h = step (reached (2 ^ 32) ds 0 (procedures n (module_of ds n))) refl e
+    computed_meant xs e z h = step (reached (2 ^ 32) (called ds) 0 start) refl e
       where
-        step : (o : Option (List ProcRef)) → reached (2 ^ 32) ds 0 (procedures n (module_of ds n)) ≡ o → option_map (λ ps. joined (touched ds ps) []) o ≡ Some xs → Has meaning z
+        step : (o : Option (List ProcRef)) → reached (2 ^ 32) (called ds) 0 start ≡ o → option_map (λ ps. joined (touched ds ps) []) o ≡ Some xs → Has meaning z
         step None f g = none_some xs g
         step (Some qs) f g = reached_meant qs f z (in_joined (touched ds qs) z (subst (λ ys. Has ys z) (sym (same_some (joined (touched ds qs) []) xs g)) h))
 
-    meant_reached : (qs : List ProcRef) → reached (2 ^ 32) ds 0 (procedures n (module_of ds n)) ≡ Some qs → (z : Var) → Has (of_all (all n [])) z → Has (touched ds qs) z
-    meant_reached qs f z h =
-        let l = final_module footprint_read ds [] nothing scoped (λ k. no_module) n m there in
-        either (λ k. absurd k) (λ x. at_entry l x)
-        (entry_at l.env m no_module m.procs z (subst (λ (g : Applied (List Var)). Has (of_all (g [])) z) l.is h))
+    -- each procedure of the module is a declared one, with the arguments
+    declared_at : (front : List Proc) (p : Proc) (after : List Proc) → m.procs ≡ front ++ p ∷ after → IsFreshAmong front p.name → (a : Proc) × (procedure_of ds (reference x p) ≡ Some a)
+    declared_at front p after place fresh = step (procedure_of ds (reference x p)) refl
       where
-        at_entry : (l : Final footprint_read all n m) → Entry l.env m no_module m.procs z → Has (touched ds qs) z
-        at_entry l x =
-            let p = x.proc in
+        typed : procedure_type ds None (reference x p) ≡ Some (type_of_procedure p)
+        typed =
+            ap (λ o. procedure_in o p.name) there ∙ ap (λ ps. of_complete ps i.procedures p.name) full ∙ ap (λ ps. found ps p.name) known.types
+            ∙ found_first m.procs p.name p (ap (λ ps. proc_of ps p.name) place ∙ first_is front p after fresh)
+
+        step : (o : Option Proc) → procedure_of ds (reference x p) ≡ o → (a : Proc) × (procedure_of ds (reference x p) ≡ Some a)
+        step None e = none_some (type_of_procedure p) (sym (declared_type ds (reference x p) ∙ ap (option_map type_of_procedure) e) ∙ typed)
+        step (Some a) e = (a, e)
+
+    -- the module in the meaning
+    abbrev args : List (Functor (List Var))
+    args = (applied x).0
+
+    l : Final footprint_read all (name_of x) m
+    l = final_module footprint_read ds [] nothing scoped (λ k. no_module) (name_of x) m known.there
+
+    applied_is : module_at all x [] ≡ module_read footprint_read l.env m args
+    applied_is = (applied x).1 ∙ ap (λ (g : Applied (List Var)). g args) l.is
+
+    meant_reached : (qs : List ProcRef) → reached (2 ^ 32) (called ds) 0 start ≡ Some qs → (z : Var) → Has (of_all (module_at all x [])) z → Has (touched ds qs) z
+    meant_reached qs f z h =
+        either (λ k. absurd k) (λ y. at_entry y)
+        (entry_at args l.env m no_module m.procs z (subst (λ ps. Has (of_all ps) z) applied_is h))
+      where
+        at_entry : Entry args l.env m no_module m.procs z → Has (touched ds qs) z
+        at_entry y =
+            let p = y.proc in
             let t = l.typed in
-            let fresh = fresh_types [] x.front p.name (fresh_at l.around m [] x.front p x.after (subst (AreProcedures l.around m []) x.place t.procs)) in
-            let v = in_module footprint_read l.env m x.front x.after p x.place fresh [] in
-            let r = reference n p in
-            let there_is : procedure_at all r ≡ Some (footprint_read (procedure_at (with_params (with_module l.env m.name (with_procedures footprint_read l.env m no_module x.front)) m.params [])) p) =
-            ap (λ (g : Applied (List Var)). found (g []) p.name) l.is ∙ v in
-            let e : procedure_of ds r ≡ Some p =
-            ap (λ o. proc_in o p.name) there ∙ ap (λ qs. proc_if_plain qs m.procs p.name) plain ∙ ap (λ ps. proc_of ps p.name) x.place ∙ first_is x.front p x.after fresh in
-            let c = all_closed ds (procedures n (module_of ds n)) qs f in
-            let i = c.there r (subst (λ ps. IsIn ps r) (sym start) (subst (λ ps. IsIn (references n ps) r) (sym x.place) (referred n x.front p x.after))) in
+            let fresh = fresh_types [] y.front p.name (fresh_at l.around m [] y.front p y.after (subst (AreProcedures l.around m []) y.place t.procs)) in
+            let v = in_module footprint_read l.env m y.front y.after p y.place fresh args in
+            let r = reference x p in
+            let there_is : procedure_at all r ≡ Some (footprint_read (procedure_at (with_params (with_module l.env m.name (with_procedures footprint_read l.env m no_module y.front)) m.params args)) p) =
+            ap (λ ps. found ps p.name) applied_is ∙ v in
+            let a = declared_at y.front p y.after y.place fresh in
+            let c = all_closed ds start qs f in
+            let j = c.there r (subst (λ ps. IsIn ps r) (sym start_is) (subst (λ ps. IsIn (references x ps) r) (sym y.place) (referred x y.front p y.after))) in
             let b : rank ds scoped r < suc (rank ds scoped r) = omega arith in
-            deep (suc (rank ds scoped r)) (procedures n (module_of ds n)) qs c r p e b i z (subst (λ o. Has (of_callee o) z) (sym there_is) x.has)
+            deep (suc (rank ds scoped r)) start qs c r a.0 a.1 b j z (subst (λ o. Has (of_callee o) z) (sym there_is) y.has)
 
     -- what is meant is computed
-    pub meant_computed : (xs : List Var) → computed.footprint ds n ≡ Some xs → (z : Var) → Has meaning z → Has xs z
+    pub meant_computed : (xs : List Var) → computed.footprint ds x ≡ Some xs → (z : Var) → Has meaning z → Has xs z
     unfolding computed.footprint
-    meant_computed xs e z h = step (reached (2 ^ 32) ds 0 (procedures n (module_of ds n))) refl e
+    meant_computed xs e z h = step (reached (2 ^ 32) (called ds) 0 start) refl e
       where
-        step : (o : Option (List ProcRef)) → reached (2 ^ 32) ds 0 (procedures n (module_of ds n)) ≡ o → option_map (λ ps. joined (touched ds ps) []) o ≡ Some xs → Has xs z
+        step : (o : Option (List ProcRef)) → reached (2 ^ 32) (called ds) 0 start ≡ o → option_map (λ ps. joined (touched ds ps) []) o ≡ Some xs → Has xs z
         step None f g = none_some xs g
-        step (Some qs) f g = subst (λ ys. Has ys z) (same_some (joined (touched ds qs) []) xs g) (joined_has (touched ds qs) z (meant_reached qs f z (in_ordered (of_all (all n [])) z h)))
+        step (Some qs) f g = subst (λ ys. Has ys z) (same_some (joined (touched ds qs) []) xs g) (joined_has (touched ds qs) z (meant_reached qs f z (in_ordered (of_all (module_at all x [])) z h)))

@@ -1,17 +1,16 @@
 //! The footprints of modules, and what procedures read and write.
 
-ghost use Rattle.std.specs.Prelude.{◌≡◌, false, List, [], Some};
+ghost use Rattle.std.specs.Prelude.{◌≡◌, false, List, [], None, Some};
 ghost use Rattle.gb_core.specs.declared.value.Value.{Value};
 ghost use Rattle.gb_core.specs.declared.var.Var.{Var};
 ghost use Rattle.gb_coupling.specs.WeightedList.{Every};
-ghost use Rattle.gb_terms.specs.declared.decl.Module.{Module};
-ghost use Rattle.gb_terms.specs.declared.module.Mexp.TheVariants as mexp;
+ghost use Rattle.gb_terms.specs.declared.module.Mexp.{Mexp};
 ghost use Rattle.gb_terms.specs.declared.module.ProcRef.{ProcRef};
 ghost use Rattle.gb_goal.specs.Answers.Answer.{given};
+ghost use Rattle.gb_goal.specs.Interfaces.{Interface, interface_at};
 ghost use Rattle.gb_goal.specs.Scope as scope;
-ghost use Rattle.gb_goal.specs.Scope.{module_of};
 ghost use Rattle.gb_meaning.specs.Commands.{statements};
-ghost use Rattle.gb_meaning.specs.Names.{Map, Name, Path, get};
+ghost use Rattle.gb_meaning.specs.Names.{Map, Path, get};
 ghost use Rattle.gb_meaning.specs.Program.{Routine};
 ghost use Rattle.gb_meaning.specs.Program.Routine.{routine};
 ghost use Rattle.gb_meaning.specs.Runs.{outcomes};
@@ -31,15 +30,20 @@ ghost use Rattle.gb_mods.specs.Read.{read};
 ghost use Rattle.gb_mods.specs.Written.{written};
 ghost use Rattle.gb_mods.specs.declared.procedures.Linked.{Linked};
 ghost use Rattle.gb_mods_laws.specs.Agree.{HoldSame};
-ghost use Rattle.gb_mods_laws.specs.Members.{CallsAreNamed, Has};
+ghost use Rattle.gb_mods_laws.specs.Members.{CallsAreDeclared, Has};
 
-/// The footprint of a declared module without parameters, as it is computed in a typed scope, has the variables of its footprint in
-/// the meaning, and no others.
+/// Declared procedures of a typed scope call declared ones alone.
+pub fn declared_calls()
+    ensures { (ds : scope.Declarations) → IsTypedScope (declared ds) → CallsAreDeclared ds }
+{}
+
+/// The footprint of a module expression that lacks nothing, as it is computed in a typed scope, has the variables of its footprint in the
+/// meaning, and no others.
 pub fn footprints()
-    ensures { (ds : scope.Declarations) → IsTypedScope (declared ds) → CallsAreNamed ds → (n : Name) (m : Module) → module_of ds n ≡ Some m → m.params ≡ [] →
-        (xs : List Var) → footprint ds n ≡ Some xs → (x : Var) →
-        (Has xs x → Has (meant.footprint (modules_of footprint_read (λ k. no_module) (declared ds)) (λ k. false) (mexp.Name n)) x)
-        × (Has (meant.footprint (modules_of footprint_read (λ k. no_module) (declared ds)) (λ k. false) (mexp.Name n)) x → Has xs x) }
+    ensures { (ds : scope.Declarations) → IsTypedScope (declared ds) → (m : Mexp) (i : Interface) → interface_at ds None m ≡ Some i → i.lacks ≡ [] →
+        (xs : List Var) → footprint ds m ≡ Some xs → (x : Var) →
+        (Has xs x → Has (meant.footprint (modules_of footprint_read (λ k. no_module) (declared ds)) (λ k. false) m) x)
+        × (Has (meant.footprint (modules_of footprint_read (λ k. no_module) (declared ds)) (λ k. false) m) x → Has xs x) }
 {}
 
 /// What a reference is linked to in a typed scope is the procedure that its calls run, in each setting over the declarations.

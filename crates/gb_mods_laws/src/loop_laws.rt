@@ -8,22 +8,21 @@ ghost use Rattle.gb_goal.specs.declared.sequent.Sequent.{Sequent};
 ghost use Rattle.gb_goal.specs.Scope.{procedure_of, Declarations};
 ghost use Rattle.gb_holds.specs.Declared.{declared};
 ghost use Rattle.gb_holds.specs.Holds.{InEachModel, InEachSetting, IsSound, LoopsAreGood};
+ghost use Rattle.gb_holds.specs.Naming.{EachName};
 ghost use Rattle.gb_holds.specs.Settings.{setting};
 ghost use Rattle.gb_typing.specs.Naming.{NoName};
 ghost use Rattle.gb_meaning.specs.Commands.{statements};
-ghost use Rattle.gb_meaning.specs.Names.{Name};
 ghost use Rattle.gb_meaning.specs.Setting.{Setting};
-ghost use Rattle.gb_mods_laws.specs.Members.{CallsAreNamed};
 ghost use Rattle.gb_models.specs.Speaking.{ScopeSpeaks};
 ghost use Rattle.gb_terms.specs.declared.decl.Proc.{Proc};
-ghost use Rattle.gb_terms.specs.declared.module.Mexp.TheVariants.{Name as named_module};
 ghost use Rattle.gb_terms.specs.declared.module.ProcRef.{ProcRef};
 ghost use Rattle.gb_prog.specs.Ends.{AreEnded, ProceduresEnd, ReachesGoodLoops};
 ghost use Rattle.gb_typing.specs.Rules.{IsSettingOver};
 ghost use Rattle.gb_typing.specs.Scopes.{IsTypedScope, context_of};
 ghost use Rattle.gb_typing.specs.Sequents.{IsTypedSequent};
 
-/// Where a declared procedure isn't unproved, its own loops are good in each model of a sound scope: it has none, or they are proved.
+/// Where a declared procedure isn't unproved, its own loops are good in each model of a sound scope: it has none, or they are proved. Those
+/// of a module with parameters are never proved.
 pub fn own_loops()
     ensures { (ds : Declarations) → IsTypedScope (declared ds) → IsSound (declared ds) → ScopeSpeaks NoName (declared ds) →
         (p : ProcRef) (a : Proc) → procedure_of ds p ≡ Some a → unproved_of ds p ≡ None →
@@ -44,11 +43,11 @@ pub fn proved_loops()
         InEachSetting (declared ds) q (λ g. (p : ProcRef) (a : Proc) → procedure_of ds p ≡ Some a → unproved_of ds p ≡ None → LoopsAreGood g (statements g a.body.list)) }
 {}
 
-/// Each loop that a procedure of an ended module reaches, through all that it calls, is good in each model of a sound scope whose
-/// procedures call one another by the names of their modules.
+/// Each loop that a procedure of an ended module reaches, through all that it calls, is good in each model of a sound scope. So is each that
+/// a procedure of a module with arguments reaches, where all modules that the module expression names are ended.
 pub fn ended_modules()
-    ensures { (ds : Declarations) → IsTypedScope (declared ds) → IsSound (declared ds) → ScopeSpeaks NoName (declared ds) → CallsAreNamed ds →
-        (n : Name) → first_unproved ds n ≡ None → (p : ProcRef) (a : Proc) → p.«module» ≡ named_module n → procedure_of ds p ≡ Some a →
+    ensures { (ds : Declarations) → IsTypedScope (declared ds) → IsSound (declared ds) → ScopeSpeaks NoName (declared ds) →
+        (p : ProcRef) → EachName (λ n. first_unproved ds n ≡ None) p.«module» → (a : Proc) → procedure_of ds p ≡ Some a →
         InEachModel (declared ds) (λ i. ReachesGoodLoops (setting (declared ds) i) ((setting (declared ds) i).procedure p)) }
 {}
 

@@ -4,7 +4,7 @@ use Rattle.gb_core.specs.declared.place.Place.{Place}
 use Rattle.gb_core.specs.declared.refusal.Refused.{Refused}
 use Rattle.gb_core.specs.declared.refusal.Refused.TheVariants.{NoMemory, ReadFault, Script}
 use Rattle.gb_core.specs.declared.refusal.Why.{Why}
-use Rattle.gb_goal.specs.Answers.{Answer, ◌>>=◌, Answers, Fails}
+use Rattle.gb_goal.specs.Answers.{Answer, ◌>>=◌, Answers, Fails, Gives}
 use Rattle.gb_goal.specs.Answers.Answer.{given, refused}
 
 -- a refusal stands
@@ -19,6 +19,9 @@ leads_on a k x h = ap (λ z. z >>= k) h
 
 pub answers_as : {A : Type 0} (a b : Answer A) (r : Result A Refused) → a ≡ b → Answers b r → Answers a r
 answers_as a b r e h = subst (λ z. Answers z r) (sym e) h
+
+pub gives_as : {A B : Type 0} (view : A → B) (a b : Answer B) (r : Result A Refused) → a ≡ b → Gives view b r → Gives view a r
+gives_as view a b r e h = subst (λ z. Gives view z r) (sym e) h
 
 pub fails_as : {A : Type 0} (a b : Answer A) (e : Refused) → a ≡ b → Fails b e → Fails a e
 fails_as a b e i h = subst (λ z. Fails z e) (sym i) h

@@ -4,3 +4,5 @@ pub mod Answers
 pub mod Nodes
 pub mod Parts
 pub mod Spellings
+pub mod Expressions
+pub mod KnownModules

@@ -1,5 +1,6 @@
 -- Lists of so many parts, and what is left of a list.
-use Rattle.std.proofs.Common.{◌≡◌, ℕ, ◌+◌, ◌<◌, ◌≤◌, List, [], ◌∷◌, length, get_or, drop, refl, ap, sym, ◌∙◌, arith, add-one, drop-cons}
+use Rattle.std.proofs.Common.{◌≡◌, ℕ, zero, suc, ◌+◌, ◌-◌, ◌<◌, ◌≤◌, List, [], ◌∷◌, length, get_or, take, drop, refl, ap, sym, subst, ◌∙◌, arith, add-one, drop-cons, length-drop, take_all}
+use denote.Param.Weighed.{most}
 
 module _ {A : Type 0} where
   -- what is left of a list begins with the element at which a loop stands
@@ -27,3 +28,19 @@ module _ {A : Type 0} where
   pub four : (xs : List A) (x y z u : A) → 4 ≤ length xs → length xs < 5 → x ≡ get_or xs 0 x → y ≡ get_or xs 1 y → z ≡ get_or xs 2 z → u ≡ get_or xs 3 u → xs ≡ x ∷ y ∷ z ∷ u ∷ []
   four [] x y z u h k e f g i = absurd (omega (arith, h))
   four (a ∷ xs) x y z u h k e f g i = ap (λ v. v ∷ xs) (sym e) ∙ ap (λ vs. x ∷ vs) (three xs y z u (omega (arith, h)) (omega (arith, k)) f g i)
+
+-- what is left of a list is no deeper
+pub left_most : {A : Type 0} (size : A → ℕ) (n : ℕ) (xs : List A) → most size (drop n xs) ≤ most size xs
+left_most size zero xs = omega arith
+left_most size (suc n) [] = omega arith
+left_most size (suc n) (x ∷ xs) = let h : most size (drop n xs) ≤ most size xs = left_most size n xs in omega arith
+
+-- a list behind its first
+abbrev pub rest : {A : Type 0} → List A → List A
+rest xs = take (length xs - 1) (drop 1 xs)
+
+pub rest_is : {A : Type 0} (xs : List A) → rest xs ≡ drop 1 xs
+rest_is xs = take_all (length xs - 1) (drop 1 xs) (omega (arith, length-drop 1 xs))
+
+pub rest_most : {A : Type 0} (size : A → ℕ) (xs : List A) → most size (rest xs) ≤ most size xs
+rest_most size xs = subst (λ ys. most size ys ≤ most size xs) (sym (rest_is xs)) (left_most size 1 xs)

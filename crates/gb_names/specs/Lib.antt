@@ -6,4 +6,5 @@ pub mod Locals
 pub mod Names
 pub mod Binders
 pub mod Allowed
+pub mod Modules
 pub mod Judgments

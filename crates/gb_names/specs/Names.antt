@@ -12,7 +12,9 @@ use Rattle.gb_core.specs.declared.ty.Ty.{Ty}
 use Rattle.gb_core.specs.declared.var.Var.{Var}
 use Rattle.gb_core.specs.declared.var.Var.TheVariants.{Local, Global}
 use Rattle.gb_terms.specs.declared.decl.Module.{Module}
+use Rattle.gb_terms.specs.declared.decl.Param.{Param}
 use Rattle.gb_terms.specs.declared.decl.TypedName.{TypedName}
+use Rattle.gb_terms.specs.declared.module.Mexp.{Mexp}
 use Rattle.gb_terms.specs.declared.op.Side.{Side}
 use Rattle.gb_terms.specs.declared.op.Side.TheVariants as side
 use Rattle.gb_terms.specs.declared.op.Read.TheVariants as read
@@ -22,13 +24,15 @@ use Rattle.gb_terms.specs.Make.{node}
 use Rattle.gb_goal.specs.declared.sequent.Sequent.{Sequent}
 use Rattle.gb_goal.specs.declared.scope.Constant.{Constant}
 use Rattle.gb_goal.specs.declared.scope.OperatorType.{OperatorType}
-use Rattle.gb_goal.specs.Scope.{Declarations, constant_named, entry_of, module_of, operator_named, path_of, proc_of}
+use Rattle.gb_goal.specs.Scope.{Declarations, constant_named, entry_of, module_of, module_type_of, operator_named, path_of, proc_of}
+use Rattle.gb_goal.specs.Instances.{name_of}
+use Rattle.gb_goal.specs.Interfaces.{found, signature_types, signatures_of}
 use Rattle.gb_goal.specs.declared.scope.ProcName.{ProcName}
 use Rattle.gb_ended.specs.Ended.{first_unproved}
 use Rattle.gb_script.specs.declared.head.Head.{Head}
 use Rattle.gb_script.specs.declared.head.Head.TheVariants as head
 use Rattle.gb_script.specs.declared.tree.Node.{Node}
-use Rattle.gb_script.specs.Tree.{text_of, place_of}
+use Rattle.gb_script.specs.Tree.{head_of, text_of, parts_of, place_of}
 use Rattle.gb_names.specs.declared.setting.Language.{Language}
 use Rattle.gb_names.specs.declared.setting.Language.TheVariants.{Formula, Function}
 use Rattle.gb_names.specs.declared.setting.Variables.{Variables}
@@ -54,6 +58,14 @@ dotted x (y ∷ ys) = dotted ((x ++ codes ".") ++ text_of y) ys
 abbrev pub path : List Node → Name
 path [] = []
 path (x ∷ xs) = dotted (text_of x) xs
+
+-- the name that a path of one word or of several spells
+abbrev pub spelled : Head → Name → List Node → Name
+spelled head.Path x ps = path ps
+spelled h x ps = x
+
+abbrev pub spelled_by : Node → Name
+spelled_by t = spelled (head_of t) (text_of t) (parts_of t)
 
 -- the first thing of this name
 abbrev pub first_named : List TypedName → Name → Option TypedName
@@ -144,13 +156,13 @@ needs_side at x = is_on_side at side.Left x || is_on_side at side.Right x
 abbrev pub is_variable : Environment → List Binding → Name → Bool
 is_variable at bound x = is_some (innermost bound x) || is_some (first_named at.sequent.logical x)
 
--- a thing that is nearer than the declarations has this name
+-- a thing that is nearer than modules has this name
 abbrev pub hidden : Environment → List Binding → Name → Bool
 hidden at bound x =
     is_variable at bound x
     || (is_some (first_named (own at) x) || (needs_side at x || (names_no_value at.sequent x || is_some (own_global at.inside x))))
 
--- a thing that is nearer than the declarations has the name of the module in this path
+-- a thing that is nearer than modules has the name of the module in this path
 unfoldable pub module_hidden : Environment → List Binding → Name → Bool
 module_hidden at bound x = option_map_or (λ w. hidden at bound w.0) (rsplit_once dot x) false
 
@@ -162,28 +174,59 @@ global_of at bound w = if hidden at bound w.0 then None else global_in w.0 (modu
 unfoldable pub global_at : Environment → List Binding → Name → Option ModuleVariable
 global_at at bound x = option_map_or (global_of at bound) (rsplit_once dot x) (own_global at.inside x)
 
+-- one of these parameters has this name
+abbrev pub is_parameter : List Param → Name → Bool
+is_parameter qs x = list_any (λ q. bytes_eq q.name x) qs
+
+-- a parameter of the module around has this name
+abbrev pub names_parameter : Option Module → Name → Bool
+names_parameter None x = false
+names_parameter (Some m) x = is_parameter m.params x
+
+-- a procedure of a parameter of this name has this name
+abbrev pub is_oracle : Declarations → List Param → Name → Name → Bool
+is_oracle ds [] n x = false
+is_oracle ds (q ∷ qs) n x = if bytes_eq n q.name then is_some (found (signature_types (signatures_of (module_type_of ds q.ty))) x) else is_oracle ds qs n x
+
+-- .. of the module around
+abbrev pub names_oracle : Option Module → Declarations → Name → Name → Bool
+names_oracle None ds n x = false
+names_oracle (Some m) ds n x = is_oracle ds m.params n x
+
 -- a module has a global or a procedure of this name
 abbrev pub has_member : Option Module → Name → Bool
 has_member None x = false
 has_member (Some m) x = is_some (first_named m.globals x) || is_some (proc_of m.procs x)
 
--- a global or a procedure of the module around, or of a declared one, has this name
+-- a global or a procedure of the module around, of a parameter of it, or of a declared module has this name
 unfoldable pub names_member : Option Module → Declarations → Name → Bool
-names_member inside ds x = option_map_or (λ w. has_member (module_if inside ds w.0) w.1) (rsplit_once dot x) false
+names_member inside ds x = option_map_or (λ w. names_oracle inside ds w.0 w.1 || has_member (module_if inside ds w.0) w.1) (rsplit_once dot x) false
 
 -- why a name means nothing that is declared and of the kind that is asked for: another thing has it, or nothing
 abbrev pub no_declared : Option Module → Declarations → Name → Why
 no_declared inside ds x =
-    if is_some (entry_of ds x) || is_some (built_in x) || names_member inside ds x then Argument else UnknownName x
+    if names_parameter inside x || is_some (entry_of ds x) || is_some (built_in x) || names_member inside ds x then Argument else UnknownName x
 
 -- why a name is that of no procedure of a module: a global of it has the name, or nothing
 abbrev pub no_procedure : Module → Name → Why
 no_procedure m x = if is_some (first_named m.globals x) then Argument else UnknownName x
 
+-- .. of a module that has globals, if it is there
+abbrev pub no_procedure_if : Option Module → Name → Why
+no_procedure_if None x = UnknownName x
+no_procedure_if (Some m) x = no_procedure m x
+
+abbrev pub no_procedure_of : Environment → Mexp → Name → Why
+no_procedure_of at m x = no_procedure_if (module_if at.inside at.declared (name_of m)) x
+
 -- a thing that is no variable has this name, or what has that of its module is none
 abbrev pub names_other : Environment → List Binding → Name → Bool
 names_other at bound x =
-    names_no_value at.sequent x || is_some (entry_of at.declared x) || module_hidden at bound x || names_member at.inside at.declared x
+    names_parameter at.inside x
+    || names_no_value at.sequent x
+    || is_some (entry_of at.declared x)
+    || module_hidden at bound x
+    || names_member at.inside at.declared x
 
 -- a name that no variable has
 abbrev pub unbound : Environment → List Binding → Name → Place → Answer Term
@@ -247,17 +290,21 @@ named at bound x p =
     (first_named (own at) x)
     (if needs_side at x then refused (no_variable at bound x) p else named_around at bound x p))
 
+-- a thing that is nearer than modules has this name, or a parameter of the module around, which is nearer than the declarations
+abbrev pub covered : Environment → List Binding → Name → Bool
+covered at bound x = names_parameter at.inside x || hidden at bound x
+
 -- the built-in thing that a name means, where nothing else has it
 abbrev pub known_at : Environment → List Binding → Name → Option Known
-known_at at bound x = if hidden at bound x || is_some (entry_of at.declared x) then None else built_in x
+known_at at bound x = if covered at bound x || is_some (entry_of at.declared x) then None else built_in x
 
 -- the constant of an enumeration that a name means
 abbrev pub constant_at : Environment → List Binding → Name → Option Constant
-constant_at at bound x = if hidden at bound x then None else constant_named at.declared x
+constant_at at bound x = if covered at bound x then None else constant_named at.declared x
 
 -- the operator of the script that a name means
 abbrev pub operator_at : Environment → List Binding → Name → Option OperatorType
-operator_at at bound x = if hidden at bound x then None else operator_named at.declared x
+operator_at at bound x = if covered at bound x then None else operator_named at.declared x
 
 -- a variable that a statement writes, with its type
 abbrev pub Target : Type 0

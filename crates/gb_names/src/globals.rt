@@ -6,7 +6,8 @@ ghost use Rattle.std.specs.Path.{dot, rsplit_once};
 ghost use Rattle.gb_goal.specs.Answers.{Answers, Refuses};
 ghost use Rattle.gb_goal.specs.Answers.Answer.{given};
 ghost use Rattle.gb_names.specs.Environment.{environment};
-ghost use Rattle.gb_names.specs.Names.{global_at, global_in, global_of, global_target, global_variable, has_member, has_own, module_hidden, module_if, names_member, no_declared, no_procedure, own_global, read_global, unsided};
+ghost use Rattle.gb_names.specs.Names.{global_at, global_in, global_of, global_target, global_variable, has_member, has_own, module_hidden, is_oracle, is_parameter, module_if, names_member, names_oracle, names_parameter, no_declared, no_procedure, no_procedure_of, own_global, read_global, unsided};
+ghost use Rattle.gb_goal.specs.Interfaces.{found, signature_types, signatures_of};
 
 use crate::bindings::Binding;
 use crate::ended::check_ended;
@@ -19,9 +20,13 @@ use gb_core::place::Place;
 use gb_core::refusal::Refused;
 use gb_core::ty::Ty;
 use gb_core::var::Var;
+use gb_goal::instance::name_of;
+use gb_goal::interface::{Procedures, signatures_of};
+use gb_goal::module_type::ModuleType;
 use gb_goal::scope::{Scope, procedure_named};
-use gb_terms::decl::{Module, TypedName};
+use gb_terms::decl::{Module, Param, TypedName};
 use gb_terms::make;
+use gb_terms::module::Mexp;
 use gb_terms::op::Side;
 use gb_terms::term::Term;
 use std::alloc::{AllocError, Global};
@@ -140,6 +145,57 @@ pub fn global_at<'a>(
     }
 }
 
+/// Whether one of these parameters has this name.
+pub fn is_parameter(params: &[Param], name: &Name) -> bool
+    ensures { result ≡ is_parameter params.now name.now }
+{
+    for q in params {
+        if q.name == *name {
+            return true;
+        }
+    }
+    false
+}
+
+/// Whether a parameter of the module around has this name.
+pub fn names_parameter(inside: Option<&Module>, name: &Name) -> bool
+    ensures { result ≡ names_parameter (option_copied inside.entry) name.now }
+{
+    match inside {
+        None => false,
+        Some(module) => is_parameter(module.params.as_slice(), name),
+    }
+}
+
+/// Whether a procedure of a module type has this name.
+fn is_asked(ty: Option<&ModuleType>, name: &Name) -> bool
+    ensures { result ≡ is_some (found (signature_types (signatures_of (option_copied ty.entry))) name.now) }
+{
+    Procedures::Asked(signatures_of(ty)).type_of(name).is_some()
+}
+
+/// Whether a procedure of the parameter of this name has this name.
+fn is_oracle(scope: &Scope, params: &[Param], owner: &Name, name: &Name) -> bool
+    ensures { result ≡ is_oracle scope.now params.now owner.now name.now }
+{
+    for q in params {
+        if *owner == q.name {
+            return is_asked(scope.module_type(&q.ty), name);
+        }
+    }
+    false
+}
+
+/// Whether a procedure of the module around's parameter of this name has this name.
+fn names_oracle(inside: Option<&Module>, scope: &Scope, owner: &Name, name: &Name) -> bool
+    ensures { result ≡ names_oracle (option_copied inside.entry) scope.now owner.now name.now }
+{
+    match inside {
+        None => false,
+        Some(module) => is_oracle(scope, module.params.as_slice(), owner, name),
+    }
+}
+
 /// Whether a module has a global or a procedure of this name.
 fn has_member(module: Option<&Module>, name: &Name) -> bool
     ensures { result ≡ has_member (option_copied «module».entry) name.now }
@@ -153,7 +209,7 @@ fn has_member(module: Option<&Module>, name: &Name) -> bool
     }
 }
 
-/// Whether a global or a procedure of the module around, or of a declared one, has this name.
+/// Whether a global or a procedure of the module around, of a parameter of it, or of a declared module has this name.
 #[tactic(auto, unfolding(crate::specs::Names::names_member))]
 pub fn names_member(
     alloc: Global,
@@ -168,7 +224,9 @@ pub fn names_member(
         Some((owner, own)) => {
             let owner = Name::from_str(alloc, owner)?;
             let own = Name::from_str(alloc, own)?;
-            Ok(has_member(module_if(inside, scope, &owner), &own))
+            let is_member = names_oracle(inside, scope, &owner, &own)
+                || has_member(module_if(inside, scope, &owner), &own);
+            Ok(is_member)
         }
     }
 }
@@ -183,7 +241,7 @@ pub fn no_declared(
 ) -> Refused
     ensures { Refuses (no_declared (option_copied inside.entry) scope.now name.now) place result }
 {
-    if scope.entry(name).is_some() || built_in(name).is_some() {
+    if names_parameter(inside, name) || scope.entry(name).is_some() || built_in(name).is_some() {
         return argument(place);
     }
     match names_member(alloc, inside, scope, name) {
@@ -201,6 +259,22 @@ pub fn no_procedure(alloc: Global, module: &Module, name: &Name, place: Place) -
         argument(place)
     } else {
         unknown(alloc, name, place)
+    }
+}
+
+/// The same of a name that is that of no procedure of a module expression.
+pub fn no_procedure_of(
+    alloc: Global,
+    at: &Setting<'_>,
+    module: &Mexp,
+    name: &Name,
+    place: Place,
+) -> Refused
+    ensures { Refuses (no_procedure_of (environment at.now) «module».now name.now) place result }
+{
+    match module_if(at.inside, at.scope, name_of(module)) {
+        Some(found) => no_procedure(alloc, found, name, place),
+        None => unknown(alloc, name, place),
     }
 }
 

@@ -1,18 +1,21 @@
 // The procedures that a judgment speaks of.
 
-ghost use Rattle.std.specs.Prelude.{◌≡◌, IfOk};
+ghost use Rattle.std.specs.Prelude.{◌≡◌, ◌∷◌, IfOk};
 ghost use Rattle.std.specs.Option.{option_copied};
 ghost use Rattle.gb_terms.specs.Make.{node};
 ghost use Rattle.gb_terms.specs.declared.term.Head.TheVariants.{Equiv, Proc as procedure};
-ghost use Rattle.gb_script.specs.Tree.{text_of, parts_of, place_of};
+ghost use Rattle.gb_script.specs.Tree.{head_of, text_of, parts_of, place_of};
 ghost use Rattle.gb_goal.specs.Answers.{Answers, Gives};
 ghost use Rattle.gb_names.specs.Environment.{environment};
-ghost use Rattle.gb_names.specs.Judgments.{about_procedure, both_procedures, declared_module, equivalent, known_module, named_module, named_procedure, one_procedure, procedure_at, procedure_path, reference, result_of};
+ghost use Rattle.gb_goal.specs.Seen.{typed};
+ghost use Rattle.gb_mods.specs.Meets.{known_seen};
+ghost use Rattle.gb_names.specs.Judgments.{about_procedure, both_procedures, called, declared_module, equivalent, functor_procedure, named_procedure, named_seen, of_functor, one_procedure, procedure_at, procedure_by, procedure_called, procedure_of_module, procedure_path, result_of};
+ghost use Rattle.gb_names.specs.Modules.{with_modules};
 
 use crate::bindings::Binding;
-use crate::ended::check_ended;
-use crate::globals::{no_declared, no_procedure};
-use crate::names::{append, hidden};
+use crate::globals::{no_declared, no_procedure_of};
+use crate::modules::{applied, applied_to, complete};
+use crate::names::{append, dotted};
 use crate::refusals::{argument, not_built};
 use crate::setting::Setting;
 use gb_core::Shared;
@@ -20,12 +23,14 @@ use gb_core::name::Name;
 use gb_core::place::Place;
 use gb_core::refusal::Refused;
 use gb_core::ty::Ty;
-use gb_goal::scope::{Entry, Scope, procedure_named};
+use gb_goal::interface::ProcedureType;
+use gb_goal::scope::{Entry, Scope};
+use gb_mods::meets::Known;
 use gb_script::head::Head as NodeHead;
 use gb_script::tree::Node;
-use gb_terms::decl::{Module, Proc, Typed, TypedName};
+use gb_terms::decl::{Module, Typed, TypedName};
 use gb_terms::make;
-use gb_terms::module::{Mexp, ProcRef};
+use gb_terms::module::ProcRef;
 use gb_terms::term::{Form, Head, Subject, Terms};
 use sqlite_items::Items;
 use std::alloc::{AllocError, Global};
@@ -57,44 +62,6 @@ pub fn declared_module<'a>(
     }
 }
 
-/// The same, where nothing nearer has the name.
-#[tactic(auto, unfolding(crate::specs::Judgments::known_module))]
-fn known_module<'a>(
-    alloc: Global,
-    at: &Setting<'a>,
-    bound: &[Binding],
-    name: &Name,
-    place: Place,
-) -> Result<&'a Module, Refused>
-    ensures { Gives (λ m. m.now) (known_module (environment at.now) bound.now name.now place) result }
-{
-    if hidden(at, bound, name) {
-        return Err(argument(place));
-    }
-    declared_module(alloc, at.inside, at.scope, name, place)
-}
-
-/// The module of this name, whose loops are proved to end, and those of all that it names.
-///
-/// # Errors
-///
-/// `UnknownName` of a module, `Argument` of a thing that is no module or lacks arguments, `UnprovedLoop` with the first procedure
-/// whose loops aren't proved.
-#[tactic(auto, unfolding(crate::specs::Judgments::named_module))]
-pub fn named_module<'a>(
-    alloc: Global,
-    at: &Setting<'a>,
-    bound: &[Binding],
-    name: &Name,
-    place: Place,
-) -> Result<&'a Module, Refused>
-    ensures { Gives (λ m. m.now) (named_module (environment at.now) bound.now name.now place) result }
-{
-    let found = known_module(alloc, at, bound, name, place)?;
-    check_ended(alloc, at, name, place)?;
-    Ok(found)
-}
-
 /// A procedure as a text names it: its module's name, of all words but the last, and the last word.
 pub fn procedure_path<'t>(
     alloc: Global,
@@ -113,14 +80,37 @@ pub fn procedure_path<'t>(
     Ok((Name::new(module), procedure))
 }
 
-/// A procedure that a judgment names: as a term names it, and what it is.
+/// A procedure that is named: as a term names it, and its types.
 #[derive(Drop)]
 pub struct Named<'a> {
     pub reference: Shared<ProcRef>,
-    pub procedure: &'a Proc,
+    pub ty: ProcedureType<'a>,
 }
 
-/// The procedure of a module that stands at this place, with its name.
+/// The procedure of this name that a module has, all of whose parameters are given.
+#[tactic(auto, unfolding(crate::specs::Judgments::procedure_of_module))]
+fn procedure_of_module<'a>(
+    alloc: Global,
+    at: &Setting<'_>,
+    known: Known<'a>,
+    name: &Node,
+    place: Place,
+) -> Result<Named<'a>, Refused>
+    ensures { Gives named_seen (procedure_of_module (environment at.now) (known_seen known.entry) name.now place) result }
+{
+    let procedures = known.interface.procedures;
+    let module = complete(known, place)?;
+    match procedures.type_of(&name.text) {
+        Some(ty) => {
+            let name = name.text.copy(alloc)?;
+            let reference = Shared::new(alloc, ProcRef { module, name })?;
+            Ok(Named { reference, ty })
+        }
+        None => Err(no_procedure_of(alloc, at, &module, &name.text, name.place)),
+    }
+}
+
+/// The procedure of a module of this name.
 #[tactic(auto, unfolding(crate::specs::Judgments::procedure_at))]
 fn procedure_at<'a>(
     alloc: Global,
@@ -128,38 +118,93 @@ fn procedure_at<'a>(
     bound: &[Binding],
     module: &Name,
     name: &Node,
+    arguments: &[Node],
     place: Place,
 ) -> Result<Named<'a>, Refused>
-    ensures { Gives (λ f. (f.reference, f.procedure.now)) (procedure_at (environment at.now) bound.now («module».now, name.now) place) result }
+    ensures { Gives named_seen (procedure_at (environment at.now) bound.now («module».now, name.now) (with_modules arguments.now) place) result }
 {
-    let within = named_module(alloc, at, bound, module, place)?;
-    match procedure_named(within.procs.as_slice(), &name.text) {
-        Some(procedure) => {
-            let reference = reference(alloc, module, &name.text)?;
-            Ok(Named {
-                reference,
-                procedure,
-            })
-        }
-        None => Err(no_procedure(alloc, within, &name.text, name.place)),
-    }
+    let known = applied(alloc, at, bound, module, place, arguments)?;
+    procedure_of_module(alloc, at, known, name, place)
 }
 
-/// A procedure as a term names it.
-pub fn reference(alloc: Global, module: &Name, name: &Name) -> Result<Shared<ProcRef>, AllocError>
-    ensures { IfOk result (λ made. made ≡ record { «module» = Mexp.Name «module».now; name = name.now }) }
-{
-    let name = name.copy(alloc)?;
-    let module = Mexp::Name(module.copy(alloc)?);
-    Shared::new(alloc, ProcRef { module, name })
-}
-
-/// The procedure that a judgment names.
+/// The procedure of a functor with arguments in brackets behind its path, of which the first stands apart.
 ///
 /// # Errors
 ///
-/// `Syntax` of a module with arguments, `UnknownName` of a module or a procedure of it, `Argument` of a thing that is
-/// no module or lacks arguments.
+/// Those of `modules::applied`, `Argument` where modules aren't given for all parameters, `UnknownName` of a name that is that of nothing
+/// of the module, and `Argument` of a global's.
+#[tactic(auto, unfolding(crate::specs::Judgments::procedure_at))]
+pub fn functor_procedure<'a>(
+    alloc: Global,
+    at: &Setting<'a>,
+    bound: &[Binding],
+    words: (&Node, &[Node]),
+    arguments: (&Node, &[Node]),
+    name: &Node,
+    place: Place,
+) -> Result<Named<'a>, Refused>
+    ensures { Gives named_seen (functor_procedure (environment at.now) bound.now words.entry.0.now words.entry.1.now (arguments.entry.0.now ∷ arguments.entry.1.now) name.now place) result }
+{
+    let module = dotted(alloc, &words.0.text, words.1)?;
+    let known = applied_to(alloc, at, bound, &module, place, arguments.0, arguments.1)?;
+    procedure_of_module(alloc, at, known, name, place)
+}
+
+/// The same of parts that are the arguments, and the name of a procedure.
+fn of_functor<'a>(
+    alloc: Global,
+    at: &Setting<'a>,
+    bound: &[Binding],
+    first: &Node,
+    words: &[Node],
+    parts: &[Node],
+    place: Place,
+) -> Result<Named<'a>, Refused>
+    ensures { Gives named_seen (of_functor (environment at.now) bound.now first.now words.now parts.now place) result }
+{
+    match parts {
+        [arguments, name] => {
+            let module = dotted(alloc, &first.text, words)?;
+            let arguments = arguments.parts.as_slice();
+            procedure_at(alloc, at, bound, &module, name, arguments, place)
+        }
+        _ => Err(not_built(place)),
+    }
+}
+
+/// The procedure that these parts name behind their first word, with arguments for its module or without.
+///
+/// # Errors
+///
+/// As `functor_procedure`.
+pub fn procedure_by<'a>(
+    alloc: Global,
+    at: &Setting<'a>,
+    bound: &[Binding],
+    head: NodeHead,
+    first: &Node,
+    parts: &[Node],
+    place: Place,
+) -> Result<Named<'a>, Refused>
+    ensures { Gives named_seen (procedure_by (environment at.now) bound.now head first.now parts.now place) result }
+{
+    match head {
+        NodeHead::ProcedurePath => match parts {
+            [second, more @ ..] => {
+                let (module, name) = procedure_path(alloc, &first.text, second, more)?;
+                procedure_at(alloc, at, bound, &module, name, &[], place)
+            }
+            [] => Err(not_built(place)),
+        },
+        NodeHead::FunctorPath => {
+            let (words, named) = parts.split_at(parts.len().saturating_sub(2));
+            of_functor(alloc, at, bound, first, words, named, place)
+        }
+        _ => Err(not_built(place)),
+    }
+}
+
+/// The same by all parts.
 pub fn named_procedure<'a>(
     alloc: Global,
     at: &Setting<'a>,
@@ -168,17 +213,64 @@ pub fn named_procedure<'a>(
     parts: &[Node],
     place: Place,
 ) -> Result<Named<'a>, Refused>
-    ensures { Gives (λ f. (f.reference, f.procedure.now)) (named_procedure (environment at.now) bound.now head parts.now place) result }
+    ensures { Gives named_seen (named_procedure (environment at.now) bound.now head parts.now place) result }
 {
+    match parts {
+        [first, more @ ..] => procedure_by(alloc, at, bound, head, first, more, place),
+        [] => Err(not_built(place)),
+    }
+}
+
+/// The procedure that a call names, by the first word and the other parts of the call, of which the last are its arguments.
+///
+/// # Errors
+///
+/// As `functor_procedure`.
+pub fn procedure_called<'a>(
+    alloc: Global,
+    at: &Setting<'a>,
+    bound: &[Binding],
+    head: NodeHead,
+    first: &Node,
+    parts: &[Node],
+    place: Place,
+) -> Result<Named<'a>, Refused>
+    ensures { Gives named_seen (procedure_called (environment at.now) bound.now head first.now parts.now place) result }
+{
+    let front = &parts[..parts.len().saturating_sub(1)];
     match head {
-        NodeHead::ProcedurePath => match parts {
-            [first, second, more @ ..] => {
-                let (module, name) = procedure_path(alloc, &first.text, second, more)?;
-                procedure_at(alloc, at, bound, &module, name, place)
-            }
-            _ => Err(not_built(place)),
-        },
+        NodeHead::Call => {
+            procedure_by(
+                alloc,
+                at,
+                bound,
+                NodeHead::ProcedurePath,
+                first,
+                front,
+                place,
+            )
+        }
+        NodeHead::FunctorCall => {
+            procedure_by(alloc, at, bound, NodeHead::FunctorPath, first, front, place)
+        }
         _ => Err(not_built(place)),
+    }
+}
+
+/// The same by all parts.
+pub fn called<'a>(
+    alloc: Global,
+    at: &Setting<'a>,
+    bound: &[Binding],
+    call: &Node,
+) -> Result<Named<'a>, Refused>
+    ensures { Gives named_seen (called (environment at.now) bound.now (head_of call.now) (parts_of call.now) (place_of call.now)) result }
+{
+    match call.parts.as_slice() {
+        [first, more @ ..] => {
+            procedure_called(alloc, at, bound, call.head, first, more, call.place)
+        }
+        [] => Err(not_built(call.place)),
     }
 }
 
@@ -211,7 +303,7 @@ pub fn one_procedure<'a>(
     f: &Node,
     place: Place,
 ) -> Result<Named<'a>, Refused>
-    ensures { Gives (λ m. (m.reference, m.procedure.now)) (one_procedure (environment at.now) bound.now f.now place) result }
+    ensures { Gives named_seen (one_procedure (environment at.now) bound.now f.now place) result }
 {
     about_procedure(f.head, place)?;
     named_procedure(alloc, at, bound, f.head, f.parts.as_slice(), f.place)
@@ -221,8 +313,7 @@ pub fn one_procedure<'a>(
 ///
 /// # Errors
 ///
-/// `Syntax` of a body, and of the module with arguments of a procedure, `UnknownName` of a module or a procedure of it,
-/// `Argument` of a thing that is no module or lacks arguments.
+/// `Syntax` of a body, and those of `named_procedure`.
 pub fn both_procedures<'a>(
     alloc: Global,
     at: &Setting<'a>,
@@ -231,7 +322,7 @@ pub fn both_procedures<'a>(
     g: &Node,
     place: Place,
 ) -> Result<Both<'a>, Refused>
-    ensures { Gives (λ b. ((b.left.reference, b.left.procedure.now), (b.right.reference, b.right.procedure.now))) (both_procedures (environment at.now) bound.now f.now g.now place) result }
+    ensures { Gives (λ b. (named_seen b.left, named_seen b.right)) (both_procedures (environment at.now) bound.now f.now g.now place) result }
 {
     about_procedure(f.head, place)?;
     about_procedure(g.head, place)?;
@@ -262,11 +353,11 @@ fn equiv_of(alloc: Global, both: &Both<'_>, args: Terms) -> Result<Form, AllocEr
 }
 
 /// What a postcondition reads of a procedure: its result, under the name `res`.
-pub fn result_of(alloc: Global, p: &Proc) -> Result<Typed, AllocError>
-    ensures { IfOk result (λ made. made ≡ result_of p.now) }
+pub fn result_of(alloc: Global, ty: ProcedureType<'_>) -> Result<Typed, AllocError>
+    ensures { IfOk result (λ made. made ≡ result_of (typed ty.entry)) }
 {
     let name = Name::from_str(alloc, "res")?;
-    let ty = p.result.share()?;
+    let ty = ty.result.share()?;
     let mut all = Items::new(alloc);
     all.push(TypedName { name, ty })?;
     Ok(all)

@@ -9,6 +9,7 @@ pub mod globals;
 pub mod judgment;
 pub mod locals;
 pub mod memories;
+pub mod modules;
 pub mod names;
 pub mod refusals;
 pub mod setting;

@@ -9,12 +9,12 @@ ghost use Rattle.gb_goal.specs.Answers.{Answers, Fails, Gives, Refuses};
 ghost use Rattle.gb_names.specs.Wanted.{counted};
 ghost use Rattle.gb_goal.specs.Answers.Answer.{given};
 ghost use Rattle.gb_names.specs.Environment.{environment};
-ghost use Rattle.gb_names.specs.Names.{beside, bound_thing, bound_variable, built_in, constant_at, dotted, first_named, hidden, is_on_side, is_variable, known_at, logical_variable, named, named_around, names_no_value, names_other, needs_side, no_variable, number_before, operator_at, path, program_variable, side_of, sided, target, unbound, unit, variable_on};
+ghost use Rattle.gb_names.specs.Names.{beside, bound_thing, bound_variable, built_in, constant_at, covered, dotted, first_named, hidden, is_on_side, is_variable, known_at, logical_variable, named, named_around, names_no_value, names_other, needs_side, no_variable, number_before, operator_at, path, program_variable, side_of, sided, spelled_by, target, unbound, unit, variable_on};
 
 use crate::bindings::{Binding, Kind, binders_inside, innermost};
 use crate::globals::{
-    Target, global_at, global_target, is_own_global, module_hidden, names_member, read_global,
-    unsided,
+    Target, global_at, global_target, is_own_global, module_hidden, names_member, names_parameter,
+    read_global, unsided,
 };
 use crate::memories::remembered;
 use crate::refusals::{argument, not_built, too_many, unknown};
@@ -49,7 +49,7 @@ pub fn append(path: &mut String, name: &Name) -> Result<(), AllocError>
 }
 
 /// A name with further words behind it, a dot before each.
-fn dotted(alloc: Global, first: &Name, more: &[Node]) -> Result<Name, AllocError>
+pub fn dotted(alloc: Global, first: &Name, more: &[Node]) -> Result<Name, AllocError>
     ensures { IfOk result (λ made. made ≡ dotted first.now more.now) }
 {
     let mut text = String::from_str(alloc, first.as_str())?;
@@ -66,6 +66,16 @@ pub fn path(alloc: Global, words: &[Node]) -> Result<Name, AllocError>
     match words {
         [] => Name::from_str(alloc, ""),
         [first, more @ ..] => dotted(alloc, &first.text, more),
+    }
+}
+
+/// The name that a path of one word or of several spells.
+pub fn spelled(alloc: Global, tree: &Node) -> Result<Name, AllocError>
+    ensures { IfOk result (λ made. made ≡ spelled_by tree.now) }
+{
+    match tree.head {
+        NodeHead::Path => path(alloc, tree.parts.as_slice()),
+        _ => tree.text.copy(alloc),
     }
 }
 
@@ -241,7 +251,10 @@ fn names_other(
 ) -> Result<bool, AllocError>
     ensures { IfOk result (λ found. found ≡ names_other (environment at.now) bound.now name.now) }
 {
-    if names_no_value(at.sequent, name) || at.scope.entry(name).is_some() {
+    if names_parameter(at.inside, name)
+        || names_no_value(at.sequent, name)
+        || at.scope.entry(name).is_some()
+    {
         return Ok(true);
     }
     if module_hidden(alloc, at, bound, name)? {
@@ -333,7 +346,7 @@ fn is_variable(at: &Setting<'_>, bound: &[Binding], name: &Name) -> bool
     innermost(bound, name).is_some() || first_named(at.sequent.logical.as_slice(), name).is_some()
 }
 
-/// Whether a thing that is nearer than the declarations has this name.
+/// Whether a thing that is nearer than modules has this name.
 pub fn hidden(at: &Setting<'_>, bound: &[Binding], name: &Name) -> bool
     ensures { result ≡ hidden (environment at.now) bound.now name.now }
 {
@@ -344,11 +357,18 @@ pub fn hidden(at: &Setting<'_>, bound: &[Binding], name: &Name) -> bool
         || is_own_global(at, name)
 }
 
+/// Whether a thing that is nearer than modules has this name, or a parameter of the module around, which is nearer than the declarations.
+fn covered(at: &Setting<'_>, bound: &[Binding], name: &Name) -> bool
+    ensures { result ≡ covered (environment at.now) bound.now name.now }
+{
+    names_parameter(at.inside, name) || hidden(at, bound, name)
+}
+
 /// The built-in thing that a name means, where nothing else has it.
 pub fn known_at(at: &Setting<'_>, bound: &[Binding], name: &Name) -> Option<Known>
     ensures { result ≡ known_at (environment at.now) bound.now name.now }
 {
-    if hidden(at, bound, name) || at.scope.entry(name).is_some() {
+    if covered(at, bound, name) || at.scope.entry(name).is_some() {
         None
     } else {
         built_in(name)
@@ -359,7 +379,7 @@ pub fn known_at(at: &Setting<'_>, bound: &[Binding], name: &Name) -> Option<Know
 pub fn constant_at<'a>(at: &Setting<'a>, bound: &[Binding], name: &Name) -> Option<&'a Constant>
     ensures { option_copied result ≡ constant_at (environment at.now) bound.now name.now }
 {
-    if hidden(at, bound, name) {
+    if covered(at, bound, name) {
         None
     } else {
         at.scope.constant_named(name)
@@ -374,7 +394,7 @@ pub fn operator_at(
 ) -> Result<Option<OperatorType>, AllocError>
     ensures { IfOk result (λ found. found ≡ operator_at (environment at.now) bound.now name.now) }
 {
-    if hidden(at, bound, name) {
+    if covered(at, bound, name) {
         Ok(None)
     } else {
         at.scope.operator_named(name)

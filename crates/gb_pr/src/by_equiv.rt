@@ -113,13 +113,14 @@ fn by_form(
     let Some(compared) = chances_of(form) else {
         return Err(no_shape());
     };
-    let left = scope.procedure(compared.left.procedure.get());
-    let right = scope.procedure(compared.right.procedure.get());
-    let (Some(left), Some(right)) = (left, right) else {
+    let Some(left) = scope.procedure(alloc, compared.left.procedure.get())? else {
         return Err(no_shape());
     };
-    let left = left.params.as_slice();
-    let right = right.params.as_slice();
+    let Some(right) = scope.procedure(alloc, compared.right.procedure.get())? else {
+        return Err(no_shape());
+    };
+    let left = left.get().params.as_slice();
+    let right = right.get().params.as_slice();
     Ok(by_equiv_goals(alloc, goal, left, right, said, &compared)?)
 }
 
@@ -129,7 +130,7 @@ fn by_form(
 /// on the right for `<=`, and that they are equivalent for `=`. It is what `byequiv` does in EasyCrypt: both procedures end together in
 /// related memories, so that where one event holds on the left the other one holds on the right, and no less often.
 /// Refused with `Shape` at any other goal; where in an argument or in an event stands a probability, a judgment or a quantifier over
-/// memories; and at a procedure of what isn't declared by its name.
+/// memories; and at a procedure of what isn't declared.
 pub fn by_equiv_rule(
     alloc: Global,
     goal: &Sequent,

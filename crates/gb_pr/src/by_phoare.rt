@@ -99,10 +99,10 @@ fn by_form(
     let Some(bounded) = bounded_of(form) else {
         return Err(no_shape());
     };
-    let Some(declared) = scope.procedure(bounded.chance.procedure.get()) else {
+    let Some(declared) = scope.procedure(alloc, bounded.chance.procedure.get())? else {
         return Err(no_shape());
     };
-    let params = declared.params.as_slice();
+    let params = declared.get().params.as_slice();
     Ok(by_phoare_goals(alloc, goal, params, said, &bounded)?)
 }
 
@@ -112,7 +112,7 @@ fn by_form(
 /// and that in every memory the event implies the postcondition for `<=`, the postcondition the event for `>=`, and they are equivalent for
 /// `=`. It is what `byphoare` does in EasyCrypt: a probability is what a judgment says of the one memory from which the procedure starts.
 /// Refused with `Shape` at any other goal; where the bound reads in a memory, or in it or in an argument stands a probability, a judgment or
-/// a quantifier over memories; and at a procedure of what isn't declared by its name.
+/// a quantifier over memories; and at a procedure of what isn't declared.
 pub fn by_phoare_rule(
     alloc: Global,
     goal: &Sequent,

@@ -25,7 +25,6 @@ use Rattle.gb_shown.specs.Trees.{IsFull, IsFullTree}
 use Rattle.gb_shown.specs.Words.{IsReadNode, IsReadTree}
 use Rattle.gb_shown.proofs.FoundInScopes.{globals_named, operators_named, procedures_named}
 use Rattle.gb_shown.proofs.Forms.{elaborated_named, function_named}
-use Rattle.gb_shown.proofs.Judged.{named_is}
 use Rattle.gb_shown.proofs.Leaves.{target_named}
 use Rattle.gb_shown.proofs.Spelled.{measured_named, spelled_good}
 use Rattle.gb_shown.proofs.Types.{written_named}
@@ -50,7 +49,6 @@ forms = record {
   function = λ es at s a b x y t r f e. function_named es t (full_tree t r) at s a b x (as_result b y) f e;
   type = λ es ds k t r u e. (let w = spelled_good es ds k t (full_tree t r) u e in record { named = written_named u w.0; written = w.0; first = w.1 });
   number = λ es ds k t r u e. measured_named es ds k t (full_tree t r) u e;
-  procedure = λ es at s bs h ps p m e. (let w = named_is es at s.scope bs h ps p m e in (w.written, w.member));
   target = λ es at s x p v e. target_named es at s x p v e;
 }
 

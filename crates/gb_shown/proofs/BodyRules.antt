@@ -5,7 +5,6 @@ use Rattle.std.specs.Option.{option_map_or, option_zip}
 use Rattle.gb_core.specs.declared.ty.Ty.{Ty, out-Ty}
 use Rattle.gb_core.specs.declared.ty.Ty.TheOpen as ty_layer
 use Rattle.gb_core.specs.declared.ty.Ty.TheVariants as ty
-use Rattle.gb_terms.specs.declared.decl.Proc.{Proc}
 use Rattle.gb_terms.specs.declared.decl.TypedName.{TypedName}
 use Rattle.gb_terms.specs.declared.module.ProcRef.{ProcRef}
 use Rattle.gb_terms.specs.declared.op.Side.{Side}
@@ -24,7 +23,8 @@ use Rattle.gb_goal.specs.Answers.Answer.{given}
 use Rattle.gb_goal.specs.Goal.{Code, Goal, code_at, goal_at, goal_of, judges_bodies}
 use Rattle.gb_goal.specs.Goal.Code.{body, procedure}
 use Rattle.gb_goal.specs.Goal.Goal.{hoare, phoare, equiv, ambient}
-use Rattle.gb_goal.specs.Scope.{Declarations, procedure_of}
+use Rattle.gb_goal.specs.Interfaces.{ProcedureType, procedure_type}
+use Rattle.gb_goal.specs.Scope.{Declarations}
 use Rattle.gb_goal.specs.declared.sequent.Sequent.{Sequent}
 use Rattle.gb_script.specs.declared.tree.Node.{Node}
 use Rattle.gb_script.specs.Tree.{head_of, parts_of}
@@ -44,17 +44,18 @@ use Rattle.gb_names.specs.Environment.{Environment, ambient as ambient_in, of_fu
 use Rattle.gb_names.specs.Judgments.{result_of}
 use Rattle.gb_elab.specs.Forms.{elaborated, function}
 use Rattle.gb_elab_mod.specs.Occurring.{occurring}
-use Rattle.gb_elab_mod.specs.Steps.{of_subjects, of_head, outcomes, sampled, last_sampled, functions, there_and_back, one_type, couplings, judges_chance, coupling_rule, functions_of, is_apply, drawing_rule, cut_rule, seq_rule, of_bodies_rule, formed, said_of_bodies, case_by, case_of_bodies, kept_by, while_rule, case_of_conclusion, sided_case_rule, params_if, result_if, locals_before, locals_after, term_if, said_anew, conseq_of, conseq_rule}
+use Rattle.gb_elab_mod.specs.OnPrograms.{of_subjects, of_head, outcomes, sampled, last_sampled, functions, there_and_back, one_type, couplings, judges_chance, coupling_rule, functions_of, is_apply, drawing_rule, cut_rule, seq_rule, of_bodies_rule, said_of_bodies, case_by, case_of_bodies, kept_by, while_rule, params_if, result_if, locals_before, locals_after, term_if, said_anew, conseq_of, conseq_rule}
+use Rattle.gb_elab_mod.specs.Steps.{formed, case_of_conclusion, sided_case_rule}
 use Rattle.gb_elab_laws.proofs.Given.{given_bind, given_is, none_some, same_some}
 use Rattle.gb_shapes.specs.declared.place.Enumeration.{Enumeration}
 use Rattle.gb_readback.specs.Written.{is_path}
 use Rattle.gb_spelt_laws.specs.Named.{IsNamedType, IsNamedSubject, IsNamedHead, IsNamed, IsNamedInstr, IsNamedCode, IsNamedGoal, IsNamedSequent}
-use Rattle.gb_spelt_laws.specs.Rules.{AreNamedArguments, IsNamedIfAny, IsNamedProcedure, IsNamedRule}
+use Rattle.gb_spelt_laws.specs.Rules.{AreNamedArguments, IsNamedIfAny, IsNamedRule}
 use Rattle.gb_spelt_laws.proofs.Statements.{EachNamed}
 use Rattle.gb_spelt_laws.proofs.Trees.{AllNamed, parts_named}
-use Rattle.gb_shown.specs.Scopes.{IsNamedScope, IsNamedSetting, IsNamedWanted}
+use Rattle.gb_shown.specs.Scopes.{IsNamedProcedureType, IsNamedScope, IsNamedSetting, IsNamedWanted}
 use Rattle.gb_shown.specs.Words.{IsReadTree}
-use Rattle.gb_shown.proofs.FoundInScopes.{member_found, params_named, procedures_named}
+use Rattle.gb_shown.proofs.Interfaces.{type_known}
 use Rattle.gb_shown.proofs.OfForms.{OfForms}
 use Rattle.gb_shown.proofs.Occurring.{AreLocals, occurring_named, outcome_typed}
 use Rattle.gb_shown.proofs.Settings.{ambient_named, as_locals, function_named, relational_named, unary_named}
@@ -99,22 +100,22 @@ module _ (forms : OfForms) (es : List Enumeration) (ds : Declarations) (k : IsNa
 
   -- The locals of called procedures.
 
-  result_local : (f : Proc) → IsNamedProcedure es f → AreLocals (result_of f)
-  result_local f h = ((res_is_path, h.result), tt)
+  result_local : (t : ProcedureType) → IsNamedProcedureType t → AreLocals (result_of t)
+  result_local t h = ((res_is_path, h.result), tt)
 
-  pub params_local : (f : ProcRef) → AreLocals (params_if (procedure_of ds f))
-  params_local f = step (procedure_of ds f) refl
+  pub params_local : (f : ProcRef) → AreLocals (params_if (procedure_type ds None f))
+  params_local f = step (procedure_type ds None f) refl
     where
-      step : (o : Option Proc) → procedure_of ds f ≡ o → AreLocals (params_if o)
+      step : (o : Option ProcedureType) → procedure_type ds None f ≡ o → AreLocals (params_if o)
       step None i = tt
-      step (Some p) i = as_locals p.params (params_named es p (member_found es ds k f p i))
+      step (Some t) i = let n = type_known es ds k f t i in as_locals t.params n.params
 
-  pub results_local : (f : ProcRef) → AreLocals (result_if (procedure_of ds f))
-  results_local f = step (procedure_of ds f) refl
+  pub results_local : (f : ProcRef) → AreLocals (result_if (procedure_type ds None f))
+  results_local f = step (procedure_type ds None f) refl
     where
-      step : (o : Option Proc) → procedure_of ds f ≡ o → AreLocals (result_if o)
+      step : (o : Option ProcedureType) → procedure_type ds None f ≡ o → AreLocals (result_if o)
       step None i = tt
-      step (Some p) i = result_local p (procedures_named es ds k f p i)
+      step (Some t) i = result_local t (type_known es ds k f t i)
 
   -- Rules on programs.
 
@@ -125,7 +126,7 @@ module _ (forms : OfForms) (es : List Enumeration) (ds : Declarations) (k : IsNa
 
   module _ (c : Context) (ls rs : List TypedName) where
     occurring_in : (s : Side) (p g : Term) (is : List Instr) (vs : List TypedName) → Named p → Named g → EachNamed es is → EachStatement c vs is → AreLocals (occurring ds (p ∷ g ∷ []) s is)
-    occurring_in s p g is vs x y z w = occurring_named es ds (procedures_named es ds k) c vs s p g is x y z w
+    occurring_in s p g is vs x y z w = occurring_named es ds (type_known es ds k) c vs s p g is x y z w
 
     cut_named : (m : Cut) (t : Node) → IsReadTree t → (G : Goal) → IsNamedGoal es G → IsGoalOver c ls rs G → (r : BodyRule) → cut_rule ds q m t G ≡ given r → IsNamedRule es r
     unfolding cut_rule

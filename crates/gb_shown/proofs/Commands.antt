@@ -29,7 +29,7 @@ use Rattle.gb_typing.proofs.Located.{typed_there}
 use Rattle.gb_variants.specs.Variants.{goals_of, over_none, zero_of}
 use Rattle.gb_shown.specs.Scopes.{IsNamedScope}
 use Rattle.gb_shown.specs.Words.{HasItsNames, IsReadNode, IsReadTree}
-use Rattle.gb_shown.proofs.FoundInScopes.{names_found, procedures_named}
+use Rattle.gb_shown.proofs.FoundInScopes.{found_written, names_found, procedures_named}
 use Rattle.gb_shown.proofs.Later.{scope_later}
 use Rattle.gb_shown.proofs.Paths.{name_is_path, path_behind}
 use Rattle.gb_theory.specs.Built.{Session, OpenProof, with_goals, with_proved}
@@ -133,7 +133,7 @@ module _ (o : Grounds) (names : Names) (es : List Enumeration) (s : Session) (g 
   loops_named : (f : Found) → procedure_of s.scope (named f.0) ≡ Some f.1 → (is_path (path_of f.0) ≡ true) × AllByRecursion (IsNamedSequent es) (goals_of f.1.body.list)
   loops_named f there =
       let x = names_found es s.scope k.scope f.0.module f.0.name f.1 there in
-      let p = procedures_named es s.scope k.scope (named f.0) f.1 there in
+      let p = procedures_named es s.scope k.scope (named f.0) (found_written es s.scope k.scope f.0.module f.0.name f.1 there) f.1 there in
       let w = typed_there s.scope g.typed (over_none (zero_of ty.Bool)) tt [] (named f.0) f.1 there in
       let typed = w.typed in
       let body = typed.body in

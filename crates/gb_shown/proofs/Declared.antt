@@ -8,8 +8,10 @@ use Rattle.gb_core.specs.declared.ty.Ty as X
 use Rattle.gb_core.specs.declared.ty.Ty.{Ty, out-Ty}
 use Rattle.gb_core.specs.declared.ty.Ty.TheVariants as ty
 use Rattle.gb_core.specs.declared.ty.Ty.TheOpen as ty_layer
+use Rattle.gb_terms.specs.declared.decl.Param.{Param}
 use Rattle.gb_goal.specs.Answers.Answer.{given}
 use Rattle.gb_goal.specs.Scope.{Declarations, entry_of}
+use Rattle.gb_goal.specs.declared.module_type.Signature.{Signature}
 use Rattle.gb_goal.specs.declared.scope.Entry.{Entry}
 use Rattle.gb_goal.specs.declared.scope.Entry.TheVariants as entry
 use Rattle.gb_script.specs.declared.head.Head.{Head}
@@ -19,20 +21,25 @@ use Rattle.gb_script.specs.Tree.{head_of, text_of, parts_of, place_of}
 use Rattle.gb_names.specs.Types.{type_of}
 use Rattle.gb_elab_prog.specs.Entries.{entries_by, entries_given}
 use Rattle.gb_elab_prog.specs.Fresh.{free}
-use Rattle.gb_elab_prog.specs.ModuleTypes.{module_type_entries, parameters, signatures}
+use Rattle.gb_elab_prog.specs.ModuleTypes.{may_call, module_type_entries, parameters, signature, signatures, signed, unsigned}
 use Rattle.gb_elab_prog.specs.Operators.{operator_entry}
+use Rattle.gb_elab_prog.specs.Procedures.{formals, result_type}
 use Rattle.gb_elab_prog.specs.Types.{only, new, constants as declared_constants, without, enumeration as declared_enumeration, enumeration_type, type_entries}
 use Rattle.gb_elab_laws.proofs.Given.{given_bind, given_is, if_refused}
 use Rattle.gb_shapes.specs.declared.place.Enumeration.{Enumeration}
 use Rattle.gb_print_names.specs.Names.{constants}
 use Rattle.gb_readback.specs.Written.{is_name_there, is_path, is_path_there, is_word_here}
 use Rattle.gb_readback.specs.Written as w
+use Rattle.gb_spelt_laws.specs.Named.{IsNamedVariable}
+use Rattle.gb_spelt_laws.specs.Rules.{IsNamedLocal}
 use Rattle.gb_spelt_laws.proofs.Sequents.{all_append}
-use Rattle.gb_shown.specs.Scopes.{IsNamedEntry, IsNamedScope}
+use Rattle.gb_shown.specs.Scopes.{IsNamedEntry, IsNamedScope, IsNamedSignature}
 use Rattle.gb_shown.specs.Words.{HasItsNames, IsName, IsReadTree}
 use Rattle.gb_shown.proofs.Paths.{name_is_path}
 use Rattle.gb_session.specs.Commands.{enumerated, enumeration}
 use Rattle.gb_shown.proofs.Entries.{operator_entry_named}
+use Rattle.gb_shown.proofs.Later.{all_so}
+use Rattle.gb_shown.proofs.Members.{formals_named, result_named}
 use Rattle.gb_shown.proofs.OfForms.{OfForms}
 use Rattle.gb_shown.proofs.Trees.{AreRead, names_of, parts_read}
 use Rattle.gb_shown.proofs.Stages.{AreDeclared, in_front}
@@ -148,13 +155,43 @@ module _ (forms : OfForms) (es : List Enumeration) (ds : Declarations) (k : IsNa
   types_named x n fresh head.Enumeration [] ns r p added e = absurd (cc)
   types_named x n fresh _ ps ns r p added e = absurd (cc)
 
-  module_type_named : (x : Node) → IsName x → (ps ts : List Node) (added : Declarations) → module_type_entries ds x ps ts ≡ given added → AddsNamed [] added
+  -- the procedures that a module type asks for
+  abbrev AreSignatures : List Signature → Type 0
+  AreSignatures ss = AllByRecursion IsNamedSignature ss
+
+  signed_named : (qs : List Param) (x : Node) → IsName x → (fs r os : Node) → IsReadTree fs → IsReadTree r → (s : Signature) → signed ds qs x fs r os ≡ given s → IsNamedSignature s
+  signed_named qs x n fs r os h u s e =
+      let a = given_bind (formals ds [] (parts_of fs)) _ s e in
+      let b = given_bind (result_type ds (parts_of r)) _ s a.2 in
+      let c = given_bind (may_call ds qs (head_of os) (parts_of os) (place_of os)) _ s b.2 in
+      let params = all_so (IsNamedLocal es) IsNamedVariable (λ v l. l.0) a.0 (formals_named forms es ds k [] tt (parts_of fs) (parts_read fs h) a.0 a.1) in
+      subst IsNamedSignature (given_is _ s c.2) (record { name = n; typed = record { params = params; result = result_named forms es ds k (parts_of r) (parts_read r u) b.0 b.1 } })
+
+  signature_named : (qs : List Param) (ss : List Signature) → AreSignatures ss → (h : Head) (ns : List Node) → HasItsNames h ns → AreRead ns → (p : Place) (us : List Signature) → signature ds qs ss h ns p ≡ given us → AreSignatures us
+  signature_named qs ss w head.Signature (x ∷ fs ∷ r ∷ os ∷ []) n m p us e =
+      let a = given_bind (unsigned ss x) _ us e in
+      let b = given_bind (signed ds qs x fs r os) _ us a.2 in
+      subst AreSignatures (given_is _ us b.2) (all_append IsNamedSignature ss (b.0 ∷ []) w (signed_named qs x n fs r os m.1.0 m.1.1.0 b.0 b.1, tt))
+  signature_named qs ss w head.Signature [] n m p us e = absurd (cc)
+  signature_named qs ss w head.Signature (x ∷ []) n m p us e = absurd (cc)
+  signature_named qs ss w head.Signature (x ∷ a ∷ []) n m p us e = absurd (cc)
+  signature_named qs ss w head.Signature (x ∷ a ∷ b ∷ []) n m p us e = absurd (cc)
+  signature_named qs ss w head.Signature (x ∷ a ∷ b ∷ c ∷ d ∷ ns) n m p us e = absurd (cc)
+  signature_named qs ss w _ ns n m p us e = absurd (cc)
+
+  signatures_named : (qs : List Param) (ss : List Signature) → AreSignatures ss → (ts : List Node) → AreRead ts → (us : List Signature) → signatures ds qs ss ts ≡ given us → AreSignatures us
+  signatures_named qs ss w [] r us e = subst AreSignatures (given_is ss us e) w
+  signatures_named qs ss w (t ∷ ts) r us e =
+      let a = given_bind (signature ds qs ss (head_of t) (parts_of t) (place_of t)) _ us e in
+      signatures_named qs a.0 (signature_named qs ss w (head_of t) (parts_of t) (names_of t r.0) (parts_read t r.0) (place_of t) a.0 a.1) ts r.1 us a.2
+
+  module_type_named : (x : Node) → IsName x → (ps ts : List Node) → AreRead ts → (added : Declarations) → module_type_entries ds x ps ts ≡ given added → AddsNamed [] added
   unfolding module_type_entries
-  module_type_named x n ps ts added e =
+  module_type_named x n ps ts r added e =
       let a = given_bind (free ds x) _ added e in
       let b = given_bind (parameters ds [] ps) _ added a.2 in
       let c = given_bind (signatures ds b.0 [] ts) _ added b.2 in
-      subst (AddsNamed []) (given_is _ added c.2) (one_added x n (entry.ModuleType (record { params = b.0; signatures = c.0 })) tt)
+      subst (AddsNamed []) (given_is _ added c.2) (one_added x n (entry.ModuleType (record { params = b.0; signatures = c.0 })) (signatures_named b.0 [] tt ts r c.0 c.1))
 
   entries_by_named : (h : Head) (ps : List Node) → HasItsNames h ps → AreRead ps → (p : Place) (added : Declarations) → entries_by ds h ps p ≡ given added → AddsNamed (enumerated h ps) added
   entries_by_named head.TypeDeclaration (x ∷ d ∷ []) n r p added e =
@@ -171,7 +208,7 @@ module _ (forms : OfForms) (es : List Enumeration) (ds : Declarations) (k : IsNa
   entries_by_named head.OperatorDeclaration [] n r p added e = absurd (cc)
   entries_by_named head.OperatorDeclaration (x ∷ []) n r p added e = absurd (cc)
   entries_by_named head.OperatorDeclaration (x ∷ d ∷ y ∷ ps) n r p added e = absurd (cc)
-  entries_by_named head.ModuleType (x ∷ qs ∷ ss ∷ []) n r p added e = module_type_named x n (parts_of qs) (parts_of ss) added e
+  entries_by_named head.ModuleType (x ∷ qs ∷ ss ∷ []) n r p added e = module_type_named x n (parts_of qs) (parts_of ss) (parts_read ss r.1.1.0) added e
   entries_by_named head.ModuleType [] n r p added e = absurd (cc)
   entries_by_named head.ModuleType (x ∷ []) n r p added e = absurd (cc)
   entries_by_named head.ModuleType (x ∷ qs ∷ []) n r p added e = absurd (cc)

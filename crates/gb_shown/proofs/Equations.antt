@@ -1,5 +1,5 @@
 -- Equations of variables of two programs, and of all globals of a module, are named.
-use Rattle.std.proofs.Common.{◌≡◌, true, List, [], ◌∷◌, is_none, Option, Some, None, bytes_eq, refl, subst}
+use Rattle.std.proofs.Common.{◌≡◌, true, List, [], ◌∷◌, is_none, Option, Some, None, refl, subst}
 use Rattle.gb_core.specs.declared.place.Place.{Place}
 use Rattle.gb_core.specs.declared.refusal.Why.TheVariants.{Argument, TypeMismatch}
 use Rattle.gb_core.specs.declared.ty.Ty.{Ty}
@@ -8,11 +8,13 @@ use Rattle.gb_core.specs.declared.var.Var.{Var}
 use Rattle.gb_core.specs.declared.var.Var.TheVariants.{Global}
 use Rattle.gb_core.specs.SameTypes.{ty_eq}
 use Rattle.gb_terms.specs.declared.decl.Module.{Module}
+use Rattle.gb_terms.specs.declared.module.Mexp.{Mexp}
 use Rattle.gb_terms.specs.declared.op.Op.TheVariants as op
 use Rattle.gb_terms.specs.declared.op.Side.{Side}
 use Rattle.gb_terms.specs.declared.op.Side.TheVariants as side
 use Rattle.gb_terms.specs.declared.term.Term.{Term}
 use Rattle.gb_terms.specs.Make.{applied, truth_literal}
+use Rattle.gb_terms.specs.SameModules.{mexp_eq}
 use Rattle.gb_script.specs.declared.head.Head.{Head}
 use Rattle.gb_script.specs.declared.head.Head.TheVariants as head
 use Rattle.gb_script.specs.declared.tree.Node.{Node}
@@ -23,10 +25,11 @@ use Rattle.gb_goal.specs.Scope.{module_of}
 use Rattle.gb_mods.specs.Footprint.{footprint}
 use Rattle.gb_names.specs.declared.bindings.Binding.{Binding}
 use Rattle.gb_names.specs.Environment.{Name, Environment, on_side}
+use Rattle.gb_names.specs.Modules.{whole_module}
 use Rattle.gb_names.specs.Names.{ModuleVariable, global_in, global_variable, path, sided}
 use Rattle.gb_names.specs.Wanted.{truth, type_of_term}
 use Rattle.gb_elab.specs.Equalities.{equalities, equality, equation, equation_of, joined, with_equalities}
-use Rattle.gb_elab.specs.Globs.{Seen, agreement, agreement_on, agreements, agrees, behind_if, global_named, module_at, same_globals, true_if_none, whole_equation, whole_read, with_agreement}
+use Rattle.gb_elab.specs.Globs.{Seen, agreement, agreement_on, agreements, agrees, behind_if, global_named, same_globals, true_if_none, whole_equation, whole_read, with_agreement}
 use Rattle.gb_shapes.specs.declared.place.Enumeration.{Enumeration}
 use Rattle.gb_spelt_laws.specs.Named.{IsNamed}
 use Rattle.gb_shown.specs.Scopes.{IsNamedModule, IsNamedSetting, AreNamedBindings}
@@ -75,17 +78,17 @@ module _ (es : List Enumeration) (at : Environment) (fit : IsNamedSetting es at)
     all_agree None h = truth_named es true
     all_agree (Some f) h = h
 
-    agreement_named : (n : Name) (p : Place) (u : Term) → agreement at.declared n s r p ≡ given u → IsNamed es u
-    agreement_named n p u e = step (footprint at.declared n) e
+    agreement_named : (m : Mexp) (p : Place) (u : Term) → agreement at.declared m s r p ≡ given u → IsNamed es u
+    agreement_named m p u e = step (footprint at.declared m) e
       where
         step : (o : Option (List Var)) → agreement_on at.declared s r p o ≡ given u → IsNamed es u
         step None e = cc
         step (Some xs) e = subst (IsNamed es) (given_is (true_if_none (agreements at.declared s r None xs)) u e) (all_agree (agreements at.declared s r None xs) (agreements_named None xs tt))
 
   -- `={glob M}`
-  same_globals_named : (m : Node) (u : Term) → same_globals at bs m ≡ given u → IsNamed es u
-  same_globals_named m u e =
-      let n = given_bind (module_at at bs m) (λ n. agreement at.declared n side.Left side.Right (place_of m)) u e in agreement_named side.Left side.Right n.0 (place_of m) u n.2
+  same_globals_named : (t : Node) (u : Term) → same_globals at bs t ≡ given u → IsNamed es u
+  same_globals_named t u e =
+      let m = given_bind (whole_module at bs t) (λ m. agreement at.declared m side.Left side.Right (place_of t)) u e in agreement_named side.Left side.Right m.0 (place_of t) u m.2
 
   -- an equation in two memories
   pub whole_equation_named : (w : Option Ty) (p : Place) (a b : Seen) (u : Term) → whole_equation at bs w p a b ≡ given u → IsNamed es u
@@ -93,7 +96,7 @@ module _ (es : List Enumeration) (at : Environment) (fit : IsNamedSetting es at)
       let q = given_bind (truth w p) _ u e in
       let l = given_bind (whole_read at bs a) _ u q.2 in
       let r = given_bind (whole_read at bs b) _ u l.2 in
-      let k = if_allowed (bytes_eq l.0.0 r.0.0) (agreement at.declared l.0.0 l.0.1 r.0.1 p) Argument a.2 u r.2 in agreement_named l.0.1 r.0.1 l.0.0 p u k.1
+      let k = if_allowed (mexp_eq l.0.0 r.0.0) (agreement at.declared l.0.0 l.0.1 r.0.1 p) Argument a.2 u r.2 in agreement_named l.0.1 r.0.1 l.0.0 p u k.1
 
   -- the equality of a variable of two programs
   equality_named : (x : Name) (p : Place) (u : Term) → equality at bs x p ≡ given u → IsNamed es u

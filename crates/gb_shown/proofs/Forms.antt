@@ -33,8 +33,8 @@ use Rattle.gb_names.specs.Allowed.{formula, judgment, stands}
 use Rattle.gb_names.specs.Binders.{bound_by, over_all, quantifier_of}
 use Rattle.gb_names.specs.Bindings.{value as value_named}
 use Rattle.gb_names.specs.Environment.{Name, Environment, sampled, speaking, valued}
-use Rattle.gb_names.specs.Judgments.{both_procedures, one_procedure, before, after, equivalent}
-use Rattle.gb_names.specs.Names.{constant_at, hidden, known_at, memory_at, named, operator_at, path, unit}
+use Rattle.gb_names.specs.Judgments.{both_procedures, called, one_procedure, before, after, equivalent}
+use Rattle.gb_names.specs.Names.{constant_at, covered, known_at, memory_at, named, operator_at, path, unit}
 use Rattle.gb_names.specs.Types.{type_of, type_or_number}
 use Rattle.gb_names.specs.Wanted.{wanted}
 use Rattle.gb_names.proofs.Nodes.{said_is}
@@ -56,7 +56,7 @@ use Rattle.gb_operators.specs.Operators.{comparison, operator_of}
 use Rattle.gb_operators.specs.Rules.{asked, made, rule_for, rule_of, user_made}
 use Rattle.gb_elab.specs.declared.contract.Contract.{Contract}
 use Rattle.gb_elab.specs.OneProcedure.{after_one, always, around, before_one, relation, with_chance}
-use Rattle.gb_elab.specs.Probability.{before_call, called, chance, chance_here}
+use Rattle.gb_elab.specs.Probability.{before_call, chance, chance_here}
 use Rattle.gb_elab.specs.Globs.{Seen, bare_glob, both_whole}
 use Rattle.gb_elab.specs.Forms.{Arguing, Contracting, Typing, Meaning, annotated, applied, applied_form, application, arguing, arguments, arguments_of, bare, bounded, bracketed, by_rule, call, comparing, contract, contracting, contract_of, declared, elaborated, equivalence, function, hoare, function_typing, last_arguments, meaning, meant, only, operand, operands, operation, operator_alone, probability, projection, quantified, read, simple, summed, typing, under, user_call, value_of, with_meanings, with_side}
 use Rattle.gb_shapes.specs.declared.place.Enumeration.{Enumeration}
@@ -67,7 +67,7 @@ use Rattle.gb_shown.specs.Scopes.{IsNamedLocal, IsNamedScope, IsNamedSetting, Ar
 use Rattle.gb_shown.specs.Trees.{HasItsParts, IsFull}
 use Rattle.gb_shown.proofs.Given.{given_bind, given_is, not_given, if_allowed, if_none, if_refused, if_some, some_given, chosen, either}
 use Rattle.gb_shown.proofs.Types.{as_result}
-use Rattle.gb_shown.proofs.FoundInForms.{constant_found, operator_found, parameters_named}
+use Rattle.gb_shown.proofs.FoundInForms.{constant_found, operator_found}
 use Rattle.gb_shown.proofs.Spelled.{measured_named, spelled_named}
 use Rattle.gb_shown.proofs.MadeForms.{Suits, IsNamedDomain, IsNamedRule, IsNamedAsked, AreReady, ready_behind, asked_named, made_named}
 use Rattle.gb_shown.proofs.Leaves.{named_read, none_alone, form_read}
@@ -75,7 +75,7 @@ use Rattle.gb_shown.proofs.Constants.{coin_named, constant_named as built_in_nam
 use Rattle.gb_shown.proofs.Weighed.{weights_named}
 use Rattle.gb_shown.proofs.Equations.{equalities_named, whole_equation_named}
 use Rattle.gb_shown.proofs.Quantified.{inner_bound, binders_named, over_all_named}
-use Rattle.gb_shown.proofs.Judged.{IsNamedContract, always_named, after_named, after_one_named, around_named, before_call_named, before_named, before_one_named, both_are, called_is, equivalent_named, lossless_named, one_is, with_chance_named}
+use Rattle.gb_shown.proofs.Judged.{IsNamedContract, always_named, after_named, after_one_named, around_named, before_call_named, before_named, before_one_named, both_are, called_is, equivalent_named, lossless_named, one_is, parameters_named, with_chance_named}
 
 -- what is known of operators
 abbrev IsOperation : Option Operation → Type 0
@@ -221,7 +221,7 @@ module _ (es : List Enumeration) where
 
   -- operators of the script that a name is found to mean
   found_operator : (at : Environment) (bs : List Binding) → IsNamedSetting es at → (x : Name) (o : OperatorType) → operator_at at bs x ≡ Some o → IsNamedRule (rule.User x o)
-  found_operator at bs fit x o e = operator_found es at.declared fit.scope x o (if_none (hidden at bs x) (operator_named at.declared x) o e)
+  found_operator at bs fit x o e = operator_found es at.declared fit.scope x o (if_none (covered at bs x) (operator_named at.declared x) o e)
 
   alone_named : (x : Name) (o : OperatorType) (p : Place) (at : Environment) (w : Option Ty) → IsNamedRule (rule.User x o) → (u : Term) → operator_alone x o p at w ≡ given u → IsNamed es u
   alone_named x o p at w n u e =
@@ -234,7 +234,7 @@ module _ (es : List Enumeration) where
       chosen (IsNamed es) (λ k. constant k w p) (known_at at bs x) _ u (λ k i h. built_in_named es k w p f u h) (of_script (constant_at at bs x) (operator_at at bs x) refl refl) e
     where
       of_script : (k : Option Constant) (o : Option OperatorType) → constant_at at bs x ≡ k → operator_at at bs x ≡ o → declared k o x p at bs w ≡ given u → IsNamed es u
-      of_script (Some k) o i j h = wanted_named es w p (literal k) u (literal_named es k (constant_found es at.declared fit.scope x k (if_none (hidden at bs x) (constant_named at.declared x) k i))) h
+      of_script (Some k) o i j h = wanted_named es w p (literal k) u (literal_named es k (constant_found es at.declared fit.scope x k (if_none (covered at bs x) (constant_named at.declared x) k i))) h
       of_script None (Some o) i j h = alone_named x o p at w (found_operator at bs fit x o j) u h
       of_script None None i j h = let q = given_bind (named at bs x p) (wanted w p) u h in wanted_named es w p q.0 u (named_read es at fit bs bound x p q.0 q.1) q.2
 
@@ -320,13 +320,13 @@ module _ (es : List Enumeration) where
       let r = n.0.1 in
       let pre = given_bind (elaborated a (before at l.1 r.1) bs (Some ty.Bool)) _ u n.2 in
       let post = given_bind (elaborated b (after at l.1 r.1) bs (Some ty.Bool)) (λ (t : Term). given (equivalent l.0 r.0 pre.0 t)) u pre.2 in
-      let there = both_are es at fit.scope bs m g p n.0 n.1 in
+      let there = both_are es at fit bs m g p n.0 n.1 in
       let left = there.0 in
       let right = there.1 in
       given_named (equivalent l.0 r.0 pre.0 post.0) u
       (equivalent_named es l.0 r.0 pre.0 post.0 left.written right.written
-      (k.1.1.0.1.0 (before at l.1 r.1) bs (before_named es at fit l.1 r.1 left.member right.member) bound (Some ty.Bool) tt pre.0 pre.1)
-      (k.1.1.1.0.1.0 (after at l.1 r.1) bs (after_named es at fit l.1 r.1 left.member right.member) bound (Some ty.Bool) tt post.0 post.1)) post.2
+      (k.1.1.0.1.0 (before at l.1 r.1) bs (before_named es at fit l.1 r.1 left.typed right.typed) bound (Some ty.Bool) tt pre.0 pre.1)
+      (k.1.1.1.0.1.0 (after at l.1 r.1) bs (after_named es at fit l.1 r.1 left.typed right.typed) bound (Some ty.Bool) tt post.0 post.1)) post.2
   equivalence_named _ k p at bs fit bound w f u h = cc
 
   contract_named : (ns : List Node) → AreKnown ns → (p : Place) → GivesContracts (contract (with_meanings ns) p)
@@ -335,12 +335,12 @@ module _ (es : List Enumeration) where
       let pre = given_bind (elaborated a (before_one at n.0.1) bs (Some ty.Bool)) _ c n.2 in
       let end = λ (t : Term). given (record { procedure = n.0.0; pre = pre.0; post = t }) in
       let post = given_bind (elaborated b (after_one at n.0.1) bs (Some ty.Bool)) end c pre.2 in
-      let there = one_is es at fit.scope bs m p n.0 n.1 in
+      let there = one_is es at fit bs m p n.0 n.1 in
       subst (IsNamedContract es) (given_is _ c post.2)
       (record {
         procedure = there.written;
-        pre = k.1.0.1.0 (before_one at n.0.1) bs (before_one_named es at fit n.0.1 there.member) bound (Some ty.Bool) tt pre.0 pre.1;
-        post = k.1.1.0.1.0 (after_one at n.0.1) bs (after_one_named es at fit n.0.1 there.member) bound (Some ty.Bool) tt post.0 post.1;
+        pre = k.1.0.1.0 (before_one at n.0.1) bs (before_one_named es at fit n.0.1 there.typed) bound (Some ty.Bool) tt pre.0 pre.1;
+        post = k.1.1.0.1.0 (after_one at n.0.1) bs (after_one_named es at fit n.0.1 there.typed) bound (Some ty.Bool) tt post.0 post.1;
       })
   contract_named _ k p at bs fit bound c h = cc
 
@@ -370,9 +370,9 @@ module _ (es : List Enumeration) where
       let ts = given_bind (arguments_of c n.0.1.params (place_of c) (before_call at (text_of m)) bs) _ u n.2 in
       let s = given_bind (memory_at at bs (text_of m) (place_of m)) _ u ts.2 in
       let e = given_bind (elaborated b (after_one at n.0.1) bs (Some ty.Bool)) (λ (t : Term). given (chance n.0.0 s.0 ts.0 t)) u s.2 in
-      let there = called_is es at fit.scope bs (head_of c) (parts_of c) (place_of c) n.0 n.1 in
-      let args = k.0.1.3 (before_call at (text_of m)) bs (before_call_named es at fit (text_of m)) bound n.0.1.params (parameters_named es n.0.1 there.member) (place_of c) ts.0 ts.1 in
-      let event = k.1.1.0.1.0 (after_one at n.0.1) bs (after_one_named es at fit n.0.1 there.member) bound (Some ty.Bool) tt e.0 e.1 in
+      let there = called_is es at fit bs (head_of c) (parts_of c) (place_of c) n.0 n.1 in
+      let args = k.0.1.3 (before_call at (text_of m)) bs (before_call_named es at fit (text_of m)) bound n.0.1.params (parameters_named es n.0.1 there.typed) (place_of c) ts.0 ts.1 in
+      let event = k.1.1.0.1.0 (after_one at n.0.1) bs (after_one_named es at fit n.0.1 there.typed) bound (Some ty.Bool) tt e.0 e.1 in
       given_named (chance n.0.0 s.0 ts.0 e.0) u (chance_named n.0.0 s.0 ts.0 e.0 there.written args event) e.2
   probability_named _ k p at bs fit bound w f u h = cc
 
@@ -423,7 +423,7 @@ module _ (es : List Enumeration) where
   form_parts head.Hoare x ns y k p at bs fit bound w f u e = hoare_named ns k p at bs fit bound w f u e
   form_parts head.Phoare x ns y k p at bs fit bound w f u e = let q = given_bind (judgment at w p) (λ _. refused TypeMismatch p) u e in absurd (not_given TypeMismatch p u q.2)
   form_parts head.Bounded x ns y k p at bs fit bound w f u e = bounded_named x ns k p at bs fit bound w f u e
-  form_parts head.Lossless x ns y k p at bs fit bound w f u e = let q = given_bind (judgment at w p) _ u e in lossless_named es at fit.scope bs (bare (with_meanings ns)) p u q.2
+  form_parts head.Lossless x ns y k p at bs fit bound w f u e = let q = given_bind (judgment at w p) _ u e in lossless_named es at fit bs (bare (with_meanings ns)) p u q.2
   form_parts head.Probability x ns y k p at bs fit bound w f u e = probability_named ns k p at bs fit bound w f u e
   form_parts h x ns y k p at bs fit bound w f u e = operation_named (operator_of h x) (operator_known h x) ns k p at bs fit bound w f u e
 
@@ -472,6 +472,7 @@ module _ (es : List Enumeration) where
 
   argument_parts : (h : Head) (ns : List Node) → AreKnown ns → GivesArguments (arguing h (with_meanings ns))
   argument_parts head.Call ns k at bs fit bound xs n p ts e = last_named ns k (length (with_meanings ns) - 1) at bs fit bound xs n p ts e
+  argument_parts head.FunctorCall ns k at bs fit bound xs n p ts e = last_named ns k (length (with_meanings ns) - 1) at bs fit bound xs n p ts e
   argument_parts head.List ns k at bs fit bound xs n p ts e =
       let r = if_refused (nat_lt (length (with_meanings ns)) (length xs)) TypeMismatch p (arguments p at bs [] xs (with_meanings ns)) ts e in
       behind_named at bs fit bound p [] tt xs n ns k ts r.1

@@ -1,5 +1,5 @@
 -- What is found in a scope in which names are names.
-use Rattle.std.proofs.Common.{◌≡◌, ◌&&◌, Bool, true, false, if◌then◌else◌, List, [], ◌∷◌, ◌++◌, Option, Some, None, find, bytes_eq, refl, ap, sym, ◌∙◌, subst}
+use Rattle.std.proofs.Common.{◌≡◌, ◌&&◌, Bool, true, false, if◌then◌else◌, List, [], ◌∷◌, Option, Some, None, find, bytes_eq, refl, ap, sym, ◌∙◌, subst}
 use Rattle.std.specs.List.{AllByRecursion, list_all}
 use Rattle.std.proofs.lemmas.Bool.{and_parts}
 use Rattle.std.proofs.lemmas.Slice.Eq.{bytes_eq-Decides}
@@ -8,10 +8,10 @@ use Rattle.gb_core.specs.declared.ty.Ty.TheVariants as ty
 use Rattle.gb_core.specs.declared.ty.Ty.TheOpen as layer
 use Rattle.gb_core.specs.declared.ty.Ty.TheViews.{out-roll-Ty}
 use Rattle.gb_terms.specs.declared.decl.Module.{Module}
-use Rattle.gb_terms.specs.declared.decl.Proc.{Proc}
 use Rattle.gb_terms.specs.declared.decl.TypedName.{TypedName}
 use Rattle.gb_terms.specs.declared.term.Term.{out-Term}
-use Rattle.gb_goal.specs.Scope.{Declarations, as_constant, as_module, as_operator, as_type, constant_named, entry_of, module_of, operator_named, proc_of, type_named}
+use Rattle.gb_goal.specs.Scope.{Declarations, as_constant, as_module, as_module_type, as_operator, as_type, constant_named, entry_of, module_of, module_type_of, operator_named, type_named}
+use Rattle.gb_goal.specs.declared.module_type.ModuleType.{ModuleType}
 use Rattle.gb_goal.specs.declared.scope.Constant.{Constant}
 use Rattle.gb_goal.specs.declared.scope.Entry.{Entry}
 use Rattle.gb_goal.specs.declared.scope.Entry.TheVariants as entry
@@ -26,9 +26,8 @@ use Rattle.gb_readback.specs.Written as w
 use Rattle.gb_readback.proofs.LeavesShown.{one_word, all_bytes}
 use Rattle.gb_spelt_laws.specs.Named.{IsNamedType, IsNamedResult, IsNamedVariable}
 use Rattle.gb_spelt_laws.specs.Rules.{HasFirst}
-use Rattle.gb_spelt_laws.specs.Rules as rules
 use Rattle.gb_spelt_laws.proofs.Trees.{parts_named}
-use Rattle.gb_shown.specs.Scopes.{IsNamedMember, IsNamedModule, IsNamedEntry, IsNamedScope, IsNamedLocal, IsNamedKind, AreNamedBindings}
+use Rattle.gb_shown.specs.Scopes.{IsNamedModule, IsNamedSignature, IsNamedEntry, IsNamedScope, IsNamedLocal, IsNamedKind, AreNamedBindings}
 use Rattle.gb_shown.proofs.Given.{same_some}
 use Rattle.gb_shown.proofs.Types.{as_result}
 
@@ -40,14 +39,6 @@ path_of x h = let k = and_parts (is_word x) _ h in ap (λ ws. list_all is_name_t
 pub locals_of_variables : (vs : List TypedName) → AllByRecursion IsNamedVariable vs → AllByRecursion IsNamedLocal vs
 locals_of_variables [] h = tt
 locals_of_variables (v ∷ vs) h = ((path_of v.name h.0.0, h.0.1), locals_of_variables vs h.1)
-
--- the parameters of a procedure are locals
-parameters_among : (es : List Enumeration) (vs ws : List TypedName) → AllByRecursion (rules.IsNamedLocal es) (vs ++ ws) → AllByRecursion IsNamedLocal vs
-parameters_among es [] ws h = tt
-parameters_among es (v ∷ vs) ws h = ((path_of v.name h.0.0.0, h.0.0.1), parameters_among es vs ws h.1)
-
-pub parameters_named : (es : List Enumeration) (p : Proc) → IsNamedMember es p → AllByRecursion IsNamedLocal p.params
-parameters_named es p h = let k = h.procedure in parameters_among es p.params p.locals k.locals
 
 -- what passes a test stands in the list
 found_among : {A : Type 0} (P : A → Type 0) (test : A → Bool) (xs : List A) (x : A) → AllByRecursion P xs → find test xs ≡ Some x → P x × (test x ≡ true)
@@ -63,14 +54,6 @@ variable_found P vs x v h e = (found_among P (λ (l : TypedName). bytes_eq l.nam
 
 pub binding_found : (bs : List Binding) (x : Name) (b : Binding) → AreNamedBindings bs → innermost bs x ≡ Some b → IsNamedKind b.kind
 binding_found bs x b h e = (found_among (λ (c : Binding). IsNamedKind c.kind) (λ (c : Binding). bytes_eq c.name x) bs b h e).0
-
-pub proc_found : (es : List Enumeration) (ps : List Proc) (x : Name) (p : Proc) → AllByRecursion (IsNamedMember es) ps → proc_of ps x ≡ Some p → IsNamedMember es p × (is_name_text x ≡ true)
-proc_found es [] x p h e = cc
-proc_found es (q ∷ qs) x p h e = step (bytes_eq x q.name) refl (proc_found es qs x p h.1) e
-  where
-    step : (b : Bool) → bytes_eq x q.name ≡ b → (proc_of qs x ≡ Some p → IsNamedMember es p × (is_name_text x ≡ true)) → (if b then Some q else proc_of qs x) ≡ Some p → IsNamedMember es p × (is_name_text x ≡ true)
-    step true t f i = (subst (IsNamedMember es) (same_some i) h.0, ap is_name_text ((bytes_eq-Decides x q.name).0 t) ∙ h.0.name)
-    step false t f i = f i
 
 module _ (es : List Enumeration) where
   pub entry_found : (ds : Declarations) → IsNamedScope es ds → (x : Name) (e : Entry) → entry_of ds x ≡ Some e → (is_path x ≡ true) × IsNamedEntry es e
@@ -131,4 +114,12 @@ module _ (es : List Enumeration) where
       where
         step : (e : Entry) → is_path x ≡ true → IsNamedEntry es e → as_module (Some e) ≡ Some m → (is_path x ≡ true) × IsNamedModule es m
         step (entry.Module k) p n j = (p, subst (IsNamedModule es) (same_some j) n)
+        step _ p n j = cc
+
+    -- the procedures that a module type asks for
+    pub type_signatures : (x : Name) (t : ModuleType) → module_type_of ds x ≡ Some t → AllByRecursion IsNamedSignature t.signatures
+    type_signatures x t i = by_entry (λ (t : ModuleType). AllByRecursion IsNamedSignature t.signatures) as_module_type x t step (λ e. cc) i
+      where
+        step : (e : Entry) → is_path x ≡ true → IsNamedEntry es e → as_module_type (Some e) ≡ Some t → AllByRecursion IsNamedSignature t.signatures
+        step (entry.ModuleType u) p n j = subst (λ (t : ModuleType). AllByRecursion IsNamedSignature t.signatures) (same_some j) n
         step _ p n j = cc

@@ -2,20 +2,25 @@
 use Rattle.std.proofs.Common.{◌≡◌, ℕ, Bool, true, false, if◌then◌else◌, bytes_eq, List, [], ◌∷◌, ◌++◌, Option, Some, None, refl, sym, subst}
 use Rattle.std.proofs.lemmas.Slice.Eq.{bytes_eq-Decides}
 use Rattle.std.specs.List.{AllByRecursion}
+use Rattle.std.specs.Option.{option_map}
 use Rattle.gb_terms.specs.declared.decl.Module.{Module}
 use Rattle.gb_terms.specs.declared.decl.Param.{Param}
 use Rattle.gb_terms.specs.declared.decl.Proc.{Proc}
 use Rattle.gb_terms.specs.declared.module.Mexp.{Mexp}
 use Rattle.gb_terms.specs.declared.module.Mexp.TheVariants as mexp
-use Rattle.gb_terms.specs.declared.module.ProcRef.{ProcRef}
-use Rattle.gb_goal.specs.Scope.{Declarations, entry_of, as_module, module_of, proc_of, proc_if_plain, proc_in, proc_at, procedure_of}
+use Rattle.gb_terms.specs.declared.module.Mexp.TheVariants.{Apply'}
+use Rattle.gb_terms.specs.Rows.{mexps_in}
+use Rattle.gb_goal.specs.Instances.{instance}
+use Rattle.gb_goal.specs.Interfaces.{suits}
+use Rattle.gb_goal.specs.Scope.{Declarations, entry_of, as_module, instance_at, module_of, proc_of, proc_if_plain, proc_in, proc_at, procedure_of}
 use Rattle.gb_goal.specs.declared.scope.Entry.{Entry}
 use Rattle.gb_goal.specs.declared.scope.Entry.TheVariants as entry
 use Rattle.gb_shapes.specs.declared.place.Enumeration.{Enumeration}
-use Rattle.gb_readback.specs.Written.{is_name_text, is_path}
+use Rattle.gb_readback.specs.Written.{is_name_text, is_path, IsWrittenModule, IsWrittenProcedure}
 use Rattle.gb_spelt_laws.specs.Named.{IsNamedVariable}
 use Rattle.gb_spelt_laws.specs.Rules.{IsNamedLocal, AreNamedProcedures, AreNamedGlobals, AreNamedOperators}
 use Rattle.gb_shown.specs.Scopes.{IsNamedMember, IsNamedModule, IsNamedEntry, IsNamedScope}
+use Rattle.gb_shown.proofs.Instances.{EachWritten, arguments_written, instance_named, name_written}
 use Rattle.gb_shown.proofs.Later.{all_so}
 
 first_part : {A : Type 0} (P : A → Type 0) (xs ys : List A) → AllByRecursion P (xs ++ ys) → AllByRecursion P xs
@@ -59,15 +64,28 @@ module _ (es : List Enumeration) where
   in_named None x p k i = absurd (cc)
   in_named (Some m) x p k i = plain_named m.params m.procs (k m refl).procs x p i
 
-  at_named : (ds : Declarations) → IsNamedScope es ds → (m : Mexp) (x : List ℕ) (p : Proc) → proc_at ds m x ≡ Some p → IsNamedMember es p
-  at_named ds k (mexp.Name m) x p i = in_named (module_of ds m) x p (λ n j. module_named ds k m n j) i
-  at_named ds k _ x p i = absurd (cc)
+  -- a procedure of a module with arguments
+  instance_found : (ds : Declarations) (o : Option Module) (ms : List Mexp) → EachWritten ms → (x : List ℕ) (p : Proc) → ((m : Module) → o ≡ Some m → IsNamedModule es m) → instance_at ds o ms x ≡ Some p → IsNamedMember es p
+  instance_found ds None ms w x p k i = absurd (cc)
+  instance_found ds (Some m) ms w x p k i = by_suits (suits ds m.params ms) i
+    where
+      by_proc : (o : Option Proc) → proc_of m.procs x ≡ o → option_map (instance m.params ms) o ≡ Some p → IsNamedMember es p
+      by_proc None e j = absurd (cc)
+      by_proc (Some q) e j =
+          let n = k m refl in
+          let same : instance m.params ms q ≡ p = cc in
+          subst (IsNamedMember es) same (instance_named es m.params ms w q (proc_named m.procs n.procs x q e))
 
-  pub member_found : (ds : Declarations) → IsNamedScope es ds → (f : ProcRef) (p : Proc) → procedure_of ds f ≡ Some p → IsNamedMember es p
-  member_found ds k f p i = at_named ds k f.module f.name p i
+      by_suits : (b : Bool) → (if b then option_map (instance m.params ms) (proc_of m.procs x) else None) ≡ Some p → IsNamedMember es p
+      by_suits true j = by_proc (proc_of m.procs x) refl j
+      by_suits false j = absurd (cc)
+
+  at_named : (ds : Declarations) → IsNamedScope es ds → (m : Mexp) → IsWrittenModule [] m → (x : List ℕ) (p : Proc) → proc_at ds m x ≡ Some p → IsNamedMember es p
+  at_named ds k (mexp.Name m) w x p i = in_named (module_of ds m) x p (λ n j. module_named ds k m n j) i
+  at_named ds k (Apply' m c args) w x p i = instance_found ds (module_of ds m) (mexps_in args) (arguments_written (Apply' m c args) w).1 x p (λ n j. module_named ds k m n j) i
 
   pub procedures_named : (ds : Declarations) → IsNamedScope es ds → AreNamedProcedures es ds
-  procedures_named ds k f p i = let n = at_named ds k f.module f.name p i in n.procedure
+  procedures_named ds k f w p i = let n = at_named ds k f.«module» w.module_is f.name p i in n.procedure
 
   pub globals_named : (ds : Declarations) → IsNamedScope es ds → AreNamedGlobals ds
   globals_named ds k x m i = let n = module_named ds k x m i in n.globals
@@ -105,3 +123,7 @@ module _ (es : List Enumeration) where
   -- the names of a procedure of the scope
   pub names_found : (ds : Declarations) → IsNamedScope es ds → (m x : List ℕ) (p : Proc) → procedure_of ds (record { «module» = mexp.Name m; name = x }) ≡ Some p → (is_path m ≡ true) × (is_name_text x ≡ true)
   names_found ds k m x p i = in_found ds k m (entry_of ds m) refl x p i
+
+  pub found_written : (ds : Declarations) → IsNamedScope es ds → (m x : List ℕ) (p : Proc) → procedure_of ds (record { «module» = mexp.Name m; name = x }) ≡ Some p →
+      IsWrittenProcedure [] (record { «module» = mexp.Name m; name = x })
+  found_written ds k m x p i = let n = names_found ds k m x p i in record { module_is = name_written m n.0; name_is = n.1 }

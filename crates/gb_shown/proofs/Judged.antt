@@ -1,27 +1,17 @@
 -- Procedures that judgments speak of are named, and so are their conditions.
-use Rattle.std.proofs.Common.{◌≡◌, true, List, [], ◌∷◌, Option, Some, refl, ap, subst}
+use Rattle.std.proofs.Common.{◌≡◌, ◌-◌, true, List, [], ◌∷◌, drop, length, take, refl, subst}
 use Rattle.std.specs.Prelude.{codes}
 use Rattle.std.specs.List.{AllByRecursion}
 use Rattle.gb_core.specs.declared.place.Place.{Place}
-use Rattle.gb_core.specs.declared.refusal.Why.{Why}
-use Rattle.gb_core.specs.declared.refusal.Why.TheVariants.{Argument}
 use Rattle.gb_core.specs.declared.ty.Ty.TheVariants as ty
-use Rattle.gb_terms.specs.declared.decl.Module.{Module}
-use Rattle.gb_terms.specs.declared.decl.Param.{Param}
-use Rattle.gb_terms.specs.declared.decl.Proc.{Proc}
-use Rattle.gb_terms.specs.declared.module.Mexp as M
-use Rattle.gb_terms.specs.declared.module.Mexp.{Mexp, out-Mexp}
-use Rattle.gb_terms.specs.declared.module.Mexp.TheOpen as mexp_layer
-use Rattle.gb_terms.specs.declared.module.Mexp.TheVariants as mexp
 use Rattle.gb_terms.specs.declared.module.ProcRef.{ProcRef}
 use Rattle.gb_terms.specs.declared.op.Rel.{Rel}
 use Rattle.gb_terms.specs.declared.term.Term.{Term}
 use Rattle.gb_terms.specs.declared.term.Head.TheVariants.{Equiv, Hoare, Phoare, Proc as procedure}
-use Rattle.gb_goal.specs.Answers.{◌>>=◌, given_or}
+use Rattle.gb_goal.specs.Answers.{given_or}
 use Rattle.gb_goal.specs.Answers.Answer.{given}
-use Rattle.gb_goal.specs.Scope.{entry_of, proc_of}
-use Rattle.gb_goal.specs.declared.scope.Entry.{Entry}
-use Rattle.gb_goal.specs.declared.scope.Entry.TheVariants as entry
+use Rattle.gb_goal.specs.Interfaces.{ProcedureType, found}
+use Rattle.gb_mods.specs.Meets.{Known}
 use Rattle.gb_script.specs.declared.head.Head.{Head}
 use Rattle.gb_script.specs.declared.head.Head.TheVariants as head
 use Rattle.gb_script.specs.declared.tree.Node.{Node}
@@ -30,14 +20,14 @@ use Rattle.gb_limits.specs.Lexeme.{spells}
 use Rattle.gb_limits.specs.LeftOut.{is_word_of}
 use Rattle.gb_names.specs.declared.bindings.Binding.{Binding}
 use Rattle.gb_names.specs.Environment.{Name, Environment}
-use Rattle.gb_names.specs.Judgments.{whole, module_in, declared_module, known_module, named_module, Path, procedure_path, Named, reference, procedure_at, named_procedure, about_procedure, one_procedure, both_procedures, before, after, result_of, equivalent}
-use Rattle.gb_names.specs.Names.{hidden, may_name, no_declared, no_procedure}
+use Rattle.gb_names.specs.Judgments.{Path, procedure_path, Named, procedure_of_module, procedure_at, functor_procedure, of_functor, procedure_by, named_procedure, in_front, procedure_called, called, about_procedure, one_procedure, both_procedures, before, after, result_of, equivalent}
+use Rattle.gb_names.specs.Modules.{applied, complete, with_modules}
+use Rattle.gb_names.specs.Names.{dotted, no_procedure_of}
 use Rattle.gb_elab.specs.declared.contract.Contract.{Contract}
 use Rattle.gb_elab.specs.OneProcedure.{after_one, always, around, before_one, ends, lossless, one, with_chance}
-use Rattle.gb_elab.specs.Probability.{before_call, called, words_of}
+use Rattle.gb_elab.specs.Probability.{before_call}
 use Rattle.gb_shapes.specs.declared.place.Enumeration.{Enumeration}
-use Rattle.gb_readback.specs.Written.{is_name_text, is_path, IsWrittenProcedure}
-use Rattle.gb_readback.specs.Written as w
+use Rattle.gb_readback.specs.Written.{is_name_text, IsWrittenProcedure}
 use Rattle.gb_spelt_laws.specs.Named.{IsNamed}
 use Rattle.gb_spelt_laws.proofs.Trees.{node_named}
 use Rattle.gb_terms.specs.declared.op.Op.TheVariants as op
@@ -45,10 +35,12 @@ use Rattle.gb_terms.specs.declared.op.Rel.TheVariants as rel
 use Rattle.gb_terms.specs.declared.term.Head.TheVariants.{Whole}
 use Rattle.gb_terms.specs.Make.{node, truth_literal}
 use Rattle.std.proofs.Common.{pos}
-use Rattle.gb_shown.specs.Scopes.{IsNamedMember, IsNamedModule, IsNamedLocal, IsNamedScope, IsNamedSetting}
-use Rattle.gb_shown.specs.Laws.{IsNamedProcedureOf}
-use Rattle.gb_shown.proofs.Given.{given_bind, given_is, if_refused, some_given}
-use Rattle.gb_shown.proofs.FoundInForms.{entry_found, parameters_named, path_of, proc_found}
+use Rattle.gb_shown.specs.Scopes.{IsNamedLocal, IsNamedProcedureType, IsNamedSetting}
+use Rattle.gb_shown.specs.Laws.{IsNamedReference}
+use Rattle.gb_shown.proofs.Given.{given_bind, given_is, some_given}
+use Rattle.gb_shown.proofs.FoundInForms.{locals_of_variables, path_of}
+use Rattle.gb_shown.proofs.Interfaces.{found_named}
+use Rattle.gb_shown.proofs.NamedModules.{IsNamedKnown, applied_named, complete_written, each_named}
 use Rattle.gb_shown.proofs.Constants.{truth_named}
 use Rattle.gb_shown.proofs.MadeForms.{operated}
 
@@ -56,77 +48,77 @@ res_is_name : is_name_text (codes "res") ≡ true
 unfolding spells is_word_of
 res_is_name = refl
 
-out_name : (x : Name) → out-Mexp (mexp.Name x) ≡ mexp_layer.Name x
-unfolding M.out-Mexp denote.Hole.Carrier.out
-out_name x = refl
-
-whole_is : (ps : List Param) (k m : Module) (p : Place) → whole ps k p ≡ given m → k ≡ m
-whole_is [] k m p h = given_is k m h
-whole_is (q ∷ qs) k m p h = cc
-
 module _ (es : List Enumeration) where
-  -- a procedure that a text names, and what it is
-  abbrev IsNamedReference : Named → Type 0
-  IsNamedReference n = IsNamedProcedureOf es n
+  module _ (at : Environment) (fit : IsNamedSetting es at) (bs : List Binding) where
+    procedure_of_named : (k : Known) → IsNamedKnown k → (f : Node) (p : Place) (n : Named) → procedure_of_module at k f p ≡ given n → IsNamedReference n
+    unfolding procedure_of_module
+    procedure_of_named k h f p n e =
+        let x = text_of f in
+        let m = given_bind (complete k p) _ n e in
+        let t = given_bind (given_or (found k.1.procedures x) (no_procedure_of at m.0 x) (place_of f)) (λ (t : ProcedureType). given (record { «module» = m.0; name = x }, t)) n m.2 in
+        let there = found_named k.1.procedures h.typed x t.0 (some_given (found k.1.procedures x) (no_procedure_of at m.0 x) (place_of f) t.0 t.1) in
+        subst IsNamedReference (given_is (record { «module» = m.0; name = x }, t.0) n t.2)
+        (record { written = record { module_is = complete_written es at fit bs k p h m.0 m.1; name_is = there.0 }; typed = there.1 })
 
-  module_of_entry : (o : Option Entry) (why : Why) (p : Place) (m : Module) → module_in o why p ≡ given m → o ≡ Some (entry.Module m)
-  module_of_entry (Some (entry.Module k)) why p m h = ap (λ z. Some (entry.Module z)) (whole_is k.params k m p h)
-  module_of_entry _ why p m h = cc
+    procedure_is : (f : Path) (ts : List Node) (p : Place) (n : Named) → procedure_at at bs f (with_modules ts) p ≡ given n → IsNamedReference n
+    unfolding procedure_at
+    procedure_is f ts p n e =
+        let k = given_bind (applied f.0 p (with_modules ts) at bs) (λ (k : Known). procedure_of_module at k f.1 p) n e in
+        procedure_of_named k.0 (applied_named es at fit bs f.0 p (with_modules ts) (each_named es at fit bs ts) k.0 k.1) f.1 p n k.2
 
-  pub module_named : (at : Environment) → IsNamedScope es at.declared → (bs : List Binding) (x : Name) (p : Place) (m : Module) → named_module at bs x p ≡ given m → (is_path x ≡ true) × IsNamedModule es m
-  unfolding named_module known_module
-  module_named at scope bs x p m h =
-      let a = given_bind (known_module at bs x p) (λ (z : Module). may_name at x p >>= λ _. given z) m h in
-      let b = given_bind (may_name at x p) (λ _. given a.0) m a.2 in
-      let k = if_refused (hidden at bs x) Argument p (declared_module at.inside at.declared x p) a.0 a.1 in
-      let e = module_of_entry (entry_of at.declared x) (no_declared at.inside at.declared x) p a.0 k.1 in
-      subst (λ z. (is_path x ≡ true) × IsNamedModule es z) (given_is a.0 m b.2) (entry_found es at.declared scope x (entry.Module a.0) e)
+    pub functor_is : (x : Node) (xs ms : List Node) (f : Node) (p : Place) (n : Named) → functor_procedure at bs x xs ms f p ≡ given n → IsNamedReference n
+    functor_is x xs ms f p n e = procedure_is (dotted (text_of x) xs, f) ms p n e
 
-  procedure_written : (m f : Name) → is_path m ≡ true → is_name_text f ≡ true → IsWrittenProcedure [] (record { «module» = mexp.Name m; name = f })
-  procedure_written m f h k = record { module_is = w.name (out_name m) h; name_is = k }
+    of_functor_is : (x : Node) (xs ps : List Node) (p : Place) (n : Named) → of_functor at bs x xs ps p ≡ given n → IsNamedReference n
+    of_functor_is x xs (ms ∷ f ∷ []) p n e = functor_is x xs (parts_of ms) f p n e
+    of_functor_is x xs _ p n e = cc
 
-  procedure_is : (at : Environment) → IsNamedScope es at.declared → (bs : List Binding) (f : Path) (p : Place) (n : Named) → procedure_at at bs f p ≡ given n → IsNamedReference n
-  unfolding procedure_at
-  procedure_is at scope bs f p n h =
-      let x = text_of f.1 in
-      let m = given_bind (named_module at bs f.0 p) _ n h in
-      let d = given_bind (given_or (proc_of m.0.procs x) (no_procedure m.0 x) (place_of f.1)) (λ (d : Proc). given (reference f, d)) n m.2 in
-      let k = module_named at scope bs f.0 p m.0 m.1 in
-      let named = k.1 in
-      let g = proc_found es m.0.procs x d.0 named.procs (some_given (proc_of m.0.procs x) (no_procedure m.0 x) (place_of f.1) d.0 d.1) in
-      subst IsNamedReference (given_is (reference f, d.0) n d.2) (record { written = procedure_written f.0 x k.0 g.1; member = g.0 })
+    by_is : (k : Head) (x : Node) (ps : List Node) (p : Place) (n : Named) → procedure_by at bs k x ps p ≡ given n → IsNamedReference n
+    by_is head.ProcedurePath x (y ∷ ys) p n e = procedure_is (procedure_path (text_of x) y ys) [] p n e
+    by_is head.FunctorPath x ps p n e = of_functor_is x (take (length ps - 2) ps) (drop (length ps - 2) ps) p n e
+    by_is _ x ps p n e = cc
 
-  pub named_is : (at : Environment) → IsNamedScope es at.declared → (bs : List Binding) (k : Head) (xs : List Node) (p : Place) (n : Named) → named_procedure at bs k xs p ≡ given n → IsNamedReference n
-  named_is at scope bs head.ProcedurePath (x ∷ y ∷ ys) p n h = procedure_is at scope bs (procedure_path (text_of x) y ys) p n h
-  named_is at scope bs _ _ p n h = cc
+    pub named_is : (k : Head) (xs : List Node) (p : Place) (n : Named) → named_procedure at bs k xs p ≡ given n → IsNamedReference n
+    named_is k (x ∷ ps) p n e = by_is k x ps p n e
+    named_is k [] p n e = cc
 
-  pub one_is : (at : Environment) → IsNamedScope es at.declared → (bs : List Binding) (f : Node) (p : Place) (n : Named) → one_procedure at bs f p ≡ given n → IsNamedReference n
-  one_is at scope bs f p n h = let a = given_bind (about_procedure (head_of f) p) _ n h in named_is at scope bs (head_of f) (parts_of f) (place_of f) n a.2
+    -- the procedure that a call names
+    pub procedure_called_is : (k : Head) (x : Node) (ps : List Node) (p : Place) (n : Named) → procedure_called at bs k x ps p ≡ given n → IsNamedReference n
+    procedure_called_is head.Call x ps p n e = by_is head.ProcedurePath x (in_front ps) p n e
+    procedure_called_is head.FunctorCall x ps p n e = by_is head.FunctorPath x (in_front ps) p n e
+    procedure_called_is _ x ps p n e = cc
 
-  pub both_are : (at : Environment) → IsNamedScope es at.declared → (bs : List Binding) (f g : Node) (p : Place) (n : Named × Named) → both_procedures at bs f g p ≡ given n →
-      IsNamedReference n.0 × IsNamedReference n.1
-  both_are at scope bs f g p n h =
-      let a = given_bind (about_procedure (head_of f) p) _ n h in
-      let b = given_bind (about_procedure (head_of g) p) _ n a.2 in
-      let l = given_bind (named_procedure at bs (head_of f) (parts_of f) (place_of f)) _ n b.2 in
-      let r = given_bind (named_procedure at bs (head_of g) (parts_of g) (place_of g)) (λ (r : Named). given (l.0, r)) n l.2 in
-      subst (λ (z : Named × Named). IsNamedReference z.0 × IsNamedReference z.1) (given_is (l.0, r.0) n r.2)
-      (named_is at scope bs (head_of f) (parts_of f) (place_of f) l.0 l.1, named_is at scope bs (head_of g) (parts_of g) (place_of g) r.0 r.1)
+    pub called_is : (k : Head) (xs : List Node) (p : Place) (n : Named) → called at bs k xs p ≡ given n → IsNamedReference n
+    called_is k (x ∷ ps) p n e = procedure_called_is k x ps p n e
+    called_is k [] p n e = cc
 
-  pub called_is : (at : Environment) → IsNamedScope es at.declared → (bs : List Binding) (k : Head) (xs : List Node) (p : Place) (n : Named) → called at bs k xs p ≡ given n → IsNamedReference n
-  called_is at scope bs head.Call xs p n h = named_is at scope bs head.ProcedurePath (words_of xs) p n h
-  called_is at scope bs _ xs p n h = cc
+    -- the procedures that a judgment is about
+    pub one_is : (f : Node) (p : Place) (n : Named) → one_procedure at bs f p ≡ given n → IsNamedReference n
+    one_is f p n h = let a = given_bind (about_procedure (head_of f) p) _ n h in named_is (head_of f) (parts_of f) (place_of f) n a.2
+
+    pub both_are : (f g : Node) (p : Place) (n : Named × Named) → both_procedures at bs f g p ≡ given n → IsNamedReference n.0 × IsNamedReference n.1
+    both_are f g p n h =
+        let a = given_bind (about_procedure (head_of f) p) _ n h in
+        let b = given_bind (about_procedure (head_of g) p) _ n a.2 in
+        let l = given_bind (named_procedure at bs (head_of f) (parts_of f) (place_of f)) _ n b.2 in
+        let r = given_bind (named_procedure at bs (head_of g) (parts_of g) (place_of g)) (λ (r : Named). given (l.0, r)) n l.2 in
+        subst (λ (z : Named × Named). IsNamedReference z.0 × IsNamedReference z.1) (given_is (l.0, r.0) n r.2)
+        (named_is (head_of f) (parts_of f) (place_of f) l.0 l.1, named_is (head_of g) (parts_of g) (place_of g) r.0 r.1)
 
   -- Where conditions stand.
 
-  result_named : (f : Proc) → IsNamedMember es f → AllByRecursion IsNamedLocal (result_of f)
-  result_named f h = let k = h.procedure in ((path_of (codes "res") res_is_name, k.result), tt)
+  result_named : (f : ProcedureType) → IsNamedProcedureType f → AllByRecursion IsNamedLocal (result_of f)
+  result_named f h = ((path_of (codes "res") res_is_name, h.result), tt)
+
+  -- the parameters of a procedure are locals
+  pub parameters_named : (f : ProcedureType) → IsNamedProcedureType f → AllByRecursion IsNamedLocal f.params
+  parameters_named f h = locals_of_variables f.params h.params
 
   module _ (at : Environment) (fit : IsNamedSetting es at) where
-    pub before_one_named : (f : Proc) → IsNamedMember es f → IsNamedSetting es (before_one at f)
-    before_one_named f h = record { scope = fit.scope; around = tt; context = fit.context; variables = parameters_named es f h }
+    pub before_one_named : (f : ProcedureType) → IsNamedProcedureType f → IsNamedSetting es (before_one at f)
+    before_one_named f h = record { scope = fit.scope; around = tt; context = fit.context; variables = parameters_named f h }
 
-    pub after_one_named : (f : Proc) → IsNamedMember es f → IsNamedSetting es (after_one at f)
+    pub after_one_named : (f : ProcedureType) → IsNamedProcedureType f → IsNamedSetting es (after_one at f)
     after_one_named f h = record { scope = fit.scope; around = tt; context = fit.context; variables = result_named f h }
 
     pub around_named : IsNamedSetting es (around at)
@@ -135,10 +127,10 @@ module _ (es : List Enumeration) where
     pub before_call_named : (x : Name) → IsNamedSetting es (before_call at x)
     before_call_named x = record { scope = fit.scope; around = tt; context = fit.context; variables = tt }
 
-    pub before_named : (f g : Proc) → IsNamedMember es f → IsNamedMember es g → IsNamedSetting es (before at f g)
-    before_named f g h k = record { scope = fit.scope; around = tt; context = fit.context; variables = (parameters_named es f h, parameters_named es g k) }
+    pub before_named : (f g : ProcedureType) → IsNamedProcedureType f → IsNamedProcedureType g → IsNamedSetting es (before at f g)
+    before_named f g h k = record { scope = fit.scope; around = tt; context = fit.context; variables = (parameters_named f h, parameters_named g k) }
 
-    pub after_named : (f g : Proc) → IsNamedMember es f → IsNamedMember es g → IsNamedSetting es (after at f g)
+    pub after_named : (f g : ProcedureType) → IsNamedProcedureType f → IsNamedProcedureType g → IsNamedSetting es (after at f g)
     after_named f g h k = record { scope = fit.scope; around = tt; context = fit.context; variables = (result_named f h, result_named g k) }
 
   -- Judgments.
@@ -161,10 +153,10 @@ module _ (es : List Enumeration) where
   one_named : IsNamed es one
   one_named = operated es op.ToReal (node (Whole (pos 1)) [] ty.Int ∷ []) ty.Real tt tt (node_named es (Whole (pos 1)) [] ty.Int (tt, refl) tt tt, tt)
 
-  pub lossless_named : (at : Environment) → IsNamedScope es at.declared → (bs : List Binding) (ns : List Node) (p : Place) (u : Term) → lossless at bs ns p ≡ given u → IsNamed es u
-  lossless_named at scope bs (f ∷ []) p u h =
+  pub lossless_named : (at : Environment) → IsNamedSetting es at → (bs : List Binding) (ns : List Node) (p : Place) (u : Term) → lossless at bs ns p ≡ given u → IsNamed es u
+  lossless_named at fit bs (f ∷ []) p u h =
       let m = given_bind (one_procedure at bs f p) (λ (m : Named). given (ends m.0)) u h in
-      let k = one_is at scope bs f p m.0 m.1 in
+      let k = one_is at fit bs f p m.0 m.1 in
       subst (IsNamed es) (given_is (ends m.0.0) u m.2)
       (with_chance_named (record { procedure = m.0.0; pre = truth_literal true; post = truth_literal true }) rel.Equal one (record { procedure = k.written; pre = truth_named es true; post = truth_named es true }) one_named)
-  lossless_named at scope bs _ p u h = cc
+  lossless_named at fit bs _ p u h = cc

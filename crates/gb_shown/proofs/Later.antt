@@ -154,7 +154,7 @@ module _ (more : List Enumeration) where
     module_later : (m : Module) → IsNamedModule es m → IsNamedModule later m
     module_later m k = record {
       name = k.name;
-      plain = k.plain;
+      params = k.params;
       globals = k.globals;
       procs = all_so (IsNamedMember es) (IsNamedMember later) (λ p n. record { name = n.name; procedure = procedure_later p n.procedure }) m.procs k.procs;
     }
@@ -164,7 +164,7 @@ module _ (more : List Enumeration) where
     entry_later (entry.Lemma q bs) k = record { sequent = sequent_later q k.sequent; conclusion = named_later q.conclusion k.conclusion }
     entry_later (entry.Type t) k = (k.0, first_later t k.1)
     entry_later entry.AbstractType k = tt
-    entry_later (entry.ModuleType y) k = tt
+    entry_later (entry.ModuleType t) k = k
     entry_later (entry.Constant c) k = (k.0, word_later (out-Ty c.ty) c.number k.1)
     entry_later (entry.Operator o) k = (k.0, named_later o.body k.1)
     entry_later (entry.AbstractOperator o) k = k

@@ -1,4 +1,5 @@
 mod Later
+mod Instances
 mod FoundInScopes
 mod Paths
 mod NamesBySorts
@@ -7,6 +8,8 @@ mod ReadTrees
 mod Given
 mod Types
 mod FoundInForms
+mod Interfaces
+mod NamedModules
 mod Spelled
 mod MadeForms
 mod Recalled

@@ -1,5 +1,5 @@
 -- Procedures and modules.
-use Rattle.std.proofs.Common.{◌≡◌, List, [], ◌∷◌, ◌++◌, Option, Some, refl, subst}
+use Rattle.std.proofs.Common.{◌≡◌, List, [], ◌∷◌, ◌++◌, Option, Some, subst}
 use Rattle.std.specs.List.{AllByRecursion}
 use Rattle.gb_core.specs.declared.place.Place.{Place}
 use Rattle.gb_core.specs.declared.refusal.Why.TheVariants.{TypeMismatch}
@@ -21,11 +21,14 @@ use Rattle.gb_names.specs.Environment.{Environment, program}
 use Rattle.gb_names.specs.Names.{unit}
 use Rattle.gb_names.specs.Types.{type_of}
 use Rattle.gb_elab_stmt.specs.Statements.{all_stated, with_statings}
-use Rattle.gb_elab_prog.specs.Bound.{parameters}
+use Rattle.gb_elab_prog.specs.Bound.{parameter_name}
 use Rattle.gb_elab_prog.specs.Contexts.{nothing_around, taken}
 use Rattle.gb_elab_prog.specs.Fresh.{free}
-use Rattle.gb_elab_prog.specs.Meets.{Stated, meets}
-use Rattle.gb_elab_prog.specs.Modules.{member_names, with_globals, with_procedure, with_member, with_members, all_short, empty_module, stated, with_body, plain, ascribed, module_by, module_given}
+use Rattle.gb_elab_prog.specs.ModuleTypes.{module_type_at, param}
+use Rattle.gb_elab_prog.specs.Modules.{member_names, with_globals, with_procedure, with_member, with_members, all_short, empty_module, typed_parameter, with_parameter, with_parameters, with_body, plain, ascribed, module_by, module_given}
+use Rattle.gb_elab_prog.specs.Stated.{Stated, meets_stated, stated}
+use Rattle.gb_elab_prog.specs.declared.stated.Where.{Where}
+use Rattle.gb_elab_prog.specs.declared.stated.Where.TheVariants.{Front, Behind}
 use Rattle.gb_elab_prog.specs.Procedures.{untaken, result_type, lacks_value, value, undeclared, formal, formals, declared, variables, locals, with_result, result_of, procedure_by}
 use Rattle.gb_elab_laws.proofs.Given.{given_bind, given_is, if_refused}
 use Rattle.gb_shapes.specs.declared.place.Enumeration.{Enumeration}
@@ -33,7 +36,7 @@ use Rattle.gb_spelt_laws.specs.Named.{IsNamed, IsNamedType, IsNamedVariable, IsN
 use Rattle.gb_spelt_laws.specs.Rules.{IsNamedLocal}
 use Rattle.gb_spelt_laws.proofs.Forms.{as_result}
 use Rattle.gb_spelt_laws.proofs.Sequents.{all_append}
-use Rattle.gb_shown.specs.Scopes.{IsNamedMember, IsNamedModule, IsNamedScope, IsNamedSetting}
+use Rattle.gb_shown.specs.Scopes.{IsNamedMember, IsNamedModule, IsNamedParam, IsNamedScope, IsNamedSetting}
 use Rattle.gb_shown.specs.Words.{HasItsNames, IsName, IsReadTree}
 use Rattle.gb_shown.proofs.Later.{all_so}
 use Rattle.gb_shown.proofs.OfForms.{OfForms, IsTypeWritten}
@@ -59,7 +62,7 @@ module _ (forms : OfForms) (es : List Enumeration) (ds : Declarations) (k : IsNa
   formal_named vs l head.Formal (x ∷ t ∷ u ∷ ps) n r p ws e = absurd (cc)
   formal_named vs l _ ps n r p ws e = absurd (cc)
 
-  formals_named : (vs : List TypedName) → AreLocals vs → (fs : List Node) → AreRead fs → (ws : List TypedName) → formals ds vs fs ≡ given ws → AreLocals ws
+  pub formals_named : (vs : List TypedName) → AreLocals vs → (fs : List Node) → AreRead fs → (ws : List TypedName) → formals ds vs fs ≡ given ws → AreLocals ws
   formals_named vs l [] r ws e = subst AreLocals (given_is vs ws e) l
   formals_named vs l (f ∷ fs) r ws e =
       let a = given_bind (formal ds vs (head_of f) (parts_of f) (place_of f)) _ ws e in
@@ -90,7 +93,7 @@ module _ (forms : OfForms) (es : List Enumeration) (ds : Declarations) (k : IsNa
   value_named at s [] r u w f e = subst (IsNamed es) (given_is unit f e) (unit_named es)
   value_named at s (v ∷ vs) r u w f e = forms.form es at s [] tt (Some u) (as_result u w) v r.0 f e
 
-  result_named : (rs : List Node) → AreRead rs → (u : Ty) → result_type ds rs ≡ given u → IsNamedType u
+  pub result_named : (rs : List Node) → AreRead rs → (u : Ty) → result_type ds rs ≡ given u → IsNamedType u
   result_named [] r u e = subst IsNamedType (given_is ty.Unit u e) tt
   result_named (t ∷ ts) r u e = let w = forms.type es ds k t r.0 u e in w.named
 
@@ -137,13 +140,13 @@ module _ (forms : OfForms) (es : List Enumeration) (ds : Declarations) (k : IsNa
       let b = given_bind (type_of ds t) _ o a.2 in
       let w = forms.type es ds k t r b.0 b.1 in
       subst (IsNamedModule es) (given_is _ o b.2)
-      (record { name = i.name; plain = i.plain; globals = all_append IsNamedVariable m.globals _ i.globals (of_type_named xs n b.0 w.named); procs = i.procs })
+      (record { name = i.name; params = i.params; globals = all_append IsNamedVariable m.globals _ i.globals (of_type_named xs n b.0 w.named); procs = i.procs })
 
   procedure_added : (q : Sequent) → IsNamedSequent es q → (m : Module) → IsNamedModule es m → (h : Head) (ns : List Node) → HasItsNames h ns → AreRead ns → (p : Place) (o : Module) → with_procedure ds q m h ns p ≡ given o → IsNamedModule es o
   procedure_added q c m i h ns n r p o e =
       let a = given_bind (procedure_by ds q m h ns p) _ o e in
       subst (IsNamedModule es) (given_is _ o a.2)
-      (record { name = i.name; plain = i.plain; globals = i.globals; procs = all_append (IsNamedMember es) m.procs _ i.procs (procedure_named q c m i h ns n r p a.0 a.1, tt) })
+      (record { name = i.name; params = i.params; globals = i.globals; procs = all_append (IsNamedMember es) m.procs _ i.procs (procedure_named q c m i h ns n r p a.0 a.1, tt) })
 
   member_named : (q : Sequent) → IsNamedSequent es q → (m : Module) → IsNamedModule es m → (h : Head) (ns : List Node) → HasItsNames h ns → AreRead ns → (p : Place) (o : Module) → with_member ds q m h ns p ≡ given o → IsNamedModule es o
   member_named q c m i head.Globals (xs ∷ t ∷ []) n r p o e = globals_named m i (parts_of xs) n t r.1.0 o e
@@ -159,39 +162,61 @@ module _ (forms : OfForms) (es : List Enumeration) (ds : Declarations) (k : IsNa
       let a = given_bind (with_member ds q m (head_of t) (parts_of t) (place_of t)) _ o e in
       members_named q c a.0 (member_named q c m i (head_of t) (parts_of t) (names_of t r.0) (parts_read t r.0) (place_of t) a.0 a.1) ts r.1 o a.2
 
-  with_body_named : (x : Node) → IsName x → (w : Option Stated) (ts : List Node) → AreRead ts → (o : Module) → with_body ds x w ts ≡ given o → IsNamedModule es o
+  empty_named : (x : Node) → IsName x → IsNamedModule es (empty_module (text_of x))
+  empty_named x n = record { name = n; params = tt; globals = tt; procs = tt }
+
+  typed_parameter_named : (m : Module) → IsNamedModule es m → (x : Node) → IsName x → (t : Node) (o : Module) → typed_parameter ds m x t ≡ given o → IsNamedModule es o
+  typed_parameter_named m i x n t o e =
+      let a = given_bind (parameter_name ds (Some m.name) m.params x) _ o e in
+      let b = given_bind (module_type_at ds t) _ o a.2 in
+      subst (IsNamedModule es) (given_is _ o b.2)
+      (record { name = i.name; params = all_append IsNamedParam m.params (param x t ∷ []) i.params (n, tt); globals = i.globals; procs = i.procs })
+
+  parameter_named : (m : Module) → IsNamedModule es m → (h : Head) (ns : List Node) → HasItsNames h ns → (p : Place) (o : Module) → with_parameter ds m h ns p ≡ given o → IsNamedModule es o
+  parameter_named m i head.ModuleParameter (x ∷ t ∷ []) n p o e = typed_parameter_named m i x n t o e
+  parameter_named m i head.ModuleParameter [] n p o e = absurd (cc)
+  parameter_named m i head.ModuleParameter (x ∷ []) n p o e = absurd (cc)
+  parameter_named m i head.ModuleParameter (x ∷ t ∷ u ∷ ns) n p o e = absurd (cc)
+  parameter_named m i _ ns n p o e = absurd (cc)
+
+  parameters_named : (m : Module) → IsNamedModule es m → (ts : List Node) → AreRead ts → (o : Module) → with_parameters ds m ts ≡ given o → IsNamedModule es o
+  parameters_named m i [] r o e = subst (IsNamedModule es) (given_is m o e) i
+  parameters_named m i (t ∷ ts) r o e =
+      let a = given_bind (with_parameter ds m (head_of t) (parts_of t) (place_of t)) _ o e in
+      parameters_named a.0 (parameter_named m i (head_of t) (parts_of t) (names_of t r.0) (place_of t) a.0 a.1) ts r.1 o a.2
+
+  with_body_named : (m : Module) → IsNamedModule es m → (w : Where) (s : Option Stated) (ts : List Node) → AreRead ts → (o : Module) → with_body ds m w s ts ≡ given o → IsNamedModule es o
   unfolding with_body
-  with_body_named x n w ts r o e =
-      let a = given_bind (with_members ds nothing_around (empty_module (text_of x)) ts) _ o e in
-      let b = given_bind (meets a.0 w) _ o a.2 in
+  with_body_named m i w s ts r o e =
+      let a = given_bind (with_members ds nothing_around m ts) _ o e in
+      let b = given_bind (meets_stated ds w a.0 s) _ o a.2 in
       let c = given_bind (all_short ts) _ o b.2 in
-      subst (IsNamedModule es) (given_is a.0 o c.2)
-      (members_named nothing_around (nothing_named es) (empty_module (text_of x)) (record { name = n; plain = refl; globals = tt; procs = tt }) ts r a.0 a.1)
+      subst (IsNamedModule es) (given_is a.0 o c.2) (members_named nothing_around (nothing_named es) m i ts r a.0 a.1)
 
-  plain_named : (x : Node) → IsName x → (qs ms ts : List Node) → AreRead ts → (o : Module) → plain ds x qs ms ts ≡ given o → IsNamedModule es o
+  plain_named : (x : Node) → IsName x → (qs : List Node) → AreRead qs → (ms ts : List Node) → AreRead ts → (o : Module) → plain ds x qs ms ts ≡ given o → IsNamedModule es o
   unfolding plain
-  plain_named x n qs ms ts r o e =
+  plain_named x n qs r ms ts s o e =
       let a = given_bind (free ds x) _ o e in
-      let b = given_bind (parameters ds x qs) _ o a.2 in
+      let b = given_bind (with_parameters ds (empty_module (text_of x)) qs) _ o a.2 in
       let c = given_bind (stated ds ms) _ o b.2 in
-      with_body_named x n c.0 ts r o c.2
+      with_body_named b.0 (parameters_named (empty_module (text_of x)) (empty_named x n) qs r b.0 b.1) Behind c.0 ts s o c.2
 
-  ascribed_named : (x : Node) → IsName x → (t : Node) (qs ts : List Node) → AreRead ts → (o : Module) → ascribed ds x t qs ts ≡ given o → IsNamedModule es o
+  ascribed_named : (x : Node) → IsName x → (t : Node) (qs : List Node) → AreRead qs → (ts : List Node) → AreRead ts → (o : Module) → ascribed ds x t qs ts ≡ given o → IsNamedModule es o
   unfolding ascribed
-  ascribed_named x n t qs ts r o e =
+  ascribed_named x n t qs r ts s o e =
       let a = given_bind (free ds x) _ o e in
       let b = given_bind (stated ds (t ∷ [])) _ o a.2 in
-      let c = given_bind (parameters ds x qs) _ o b.2 in
-      with_body_named x n b.0 ts r o c.2
+      let c = given_bind (with_parameters ds (empty_module (text_of x)) qs) _ o b.2 in
+      with_body_named c.0 (parameters_named (empty_module (text_of x)) (empty_named x n) qs r c.0 c.1) Front b.0 ts s o c.2
 
   module_by_named : (h : Head) (ns : List Node) → HasItsNames h ns → AreRead ns → (p : Place) (o : Module) → module_by ds h ns p ≡ given o → IsNamedModule es o
-  module_by_named head.Module (x ∷ qs ∷ m ∷ ts ∷ []) n r p o e = plain_named x n (parts_of qs) (parts_of m) (parts_of ts) (parts_read ts r.1.1.1.0) o e
+  module_by_named head.Module (x ∷ qs ∷ m ∷ ts ∷ []) n r p o e = plain_named x n (parts_of qs) (parts_read qs r.1.0) (parts_of m) (parts_of ts) (parts_read ts r.1.1.1.0) o e
   module_by_named head.Module [] n r p o e = absurd (cc)
   module_by_named head.Module (x ∷ []) n r p o e = absurd (cc)
   module_by_named head.Module (x ∷ q ∷ []) n r p o e = absurd (cc)
   module_by_named head.Module (x ∷ q ∷ m ∷ []) n r p o e = absurd (cc)
   module_by_named head.Module (x ∷ q ∷ m ∷ t ∷ u ∷ ns) n r p o e = absurd (cc)
-  module_by_named head.AscribedModule (x ∷ t ∷ qs ∷ ts ∷ []) n r p o e = ascribed_named x n t (parts_of qs) (parts_of ts) (parts_read ts r.1.1.1.0) o e
+  module_by_named head.AscribedModule (x ∷ t ∷ qs ∷ ts ∷ []) n r p o e = ascribed_named x n t (parts_of qs) (parts_read qs r.1.1.0) (parts_of ts) (parts_read ts r.1.1.1.0) o e
   module_by_named head.AscribedModule [] n r p o e = absurd (cc)
   module_by_named head.AscribedModule (x ∷ []) n r p o e = absurd (cc)
   module_by_named head.AscribedModule (x ∷ t ∷ []) n r p o e = absurd (cc)

@@ -218,6 +218,8 @@ names_by_head head.Variables p good w = first_names head.Variables (whole_parts 
 names_by_head head.TypeDeclaration p good w = first_name head.TypeDeclaration (whole_parts refl p).1 w (λ x ys n. n)
 names_by_head head.OperatorDeclaration p good w = first_name head.OperatorDeclaration (whole_parts refl p).1 w (λ x ys n. n)
 names_by_head head.ModuleType p good w = first_name head.ModuleType (whole_parts refl p).1 w (λ x ys n. n)
+names_by_head head.ModuleParameter p good w = first_name head.ModuleParameter (whole_parts refl p).1 w (λ x ys n. n)
+names_by_head head.Signature p good w = first_name head.Signature (whole_parts refl p).1 w (λ x ys n. n)
 names_by_head head.Lemma p good w = first_name head.Lemma (whole_parts refl p).1 w (λ x ys n. n)
 names_by_head head.Enumeration p good w = by_fits (whole_parts refl p).1 w
   where

@@ -8,8 +8,8 @@ use Rattle.gb_core.specs.declared.ty.Ty.TheVariants as ty
 use Rattle.gb_core.specs.declared.ty.Ty.TheViews.{roll-out-Ty}
 use Rattle.gb_core.specs.declared.var.Var.{Var}
 use Rattle.gb_core.specs.declared.var.Var.TheVariants.{Global, Local, Glob}
-use Rattle.gb_terms.specs.declared.decl.Proc.{Proc}
 use Rattle.gb_terms.specs.declared.decl.TypedName.{TypedName}
+use Rattle.gb_terms.specs.declared.module.ProcRef.{ProcRef}
 use Rattle.gb_terms.specs.declared.op.Side.{Side}
 use Rattle.gb_terms.specs.declared.op.Side.TheVariants as side
 use Rattle.gb_terms.specs.declared.op.Read.TheVariants.{Program}
@@ -19,7 +19,8 @@ use Rattle.gb_terms.specs.declared.term.Head.TheVariants.{Assign, Sample, Call',
 use Rattle.gb_terms.specs.declared.term.Instr.{Instr, Row_of-Instr, end_of-Instr, more_of-Instr}
 use Rattle.gb_terms.specs.declared.term.Term.{Term, Term', Row_of-Term, end_of-Term, more_of-Term, end_of-Head, more_of-Head, out-Term}
 use Rattle.gb_terms.specs.Equal.{side_eq}
-use Rattle.gb_goal.specs.Scope.{Declarations, procedure_of}
+use Rattle.gb_goal.specs.Interfaces.{ProcedureType, procedure_type}
+use Rattle.gb_goal.specs.Scope.{Declarations}
 use Rattle.gb_meaning.specs.Commands.{terms_in}
 use Rattle.gb_meaning.specs.Trees.{distributions}
 use Rattle.gb_laws.specs.Finite.{IsFinite}
@@ -33,11 +34,10 @@ use Rattle.gb_elab_laws.proofs.Occurring.{head_locals, read_is}
 use Rattle.gb_shapes.specs.declared.place.Enumeration.{Enumeration}
 use Rattle.gb_readback.specs.Written.{is_target_here, are_targets_here}
 use Rattle.gb_spelt_laws.specs.Named.{IsNamedType, AreNamedTypes, IsNamedResult, IsNamedHead, IsNamed, AreNamed, IsNamedInstr, AreNamedInstrs}
-use Rattle.gb_spelt_laws.specs.Rules.{AreNamedProcedures, IsNamedProcedure}
 use Rattle.gb_spelt_laws.proofs.Sequents.{all_append}
 use Rattle.gb_spelt_laws.proofs.Statements.{EachNamed}
 use Rattle.gb_spelt_laws.proofs.Trees.{parts_named}
-use Rattle.gb_shown.specs.Scopes.{IsNamedLocal}
+use Rattle.gb_shown.specs.Scopes.{IsNamedLocal, IsNamedProcedureType}
 use Rattle.gb_shown.proofs.Later.{both_hold}
 use mathlib.Core.Former.{Count}
 
@@ -154,11 +154,11 @@ module _ (es : List Enumeration) where
   drawn_by x h t k (ty_layer.Distr u) e = local_named x u h (outcome_typed t u k e)
   drawn_by x h t k _ e = tt
 
-  returned_named : (xs : List Var) → list_all (is_target_here []) xs ≡ true → (o : Option Proc) → ((f : Proc) → o ≡ Some f → IsNamedProcedure es f) → AreLocals (returned xs o)
+  returned_named : (xs : List Var) → list_all (is_target_here []) xs ≡ true → (o : Option ProcedureType) → ((f : ProcedureType) → o ≡ Some f → IsNamedProcedureType f) → AreLocals (returned xs o)
   returned_named xs h None k = tt
   returned_named xs h (Some f) k = let n = k f refl in taking_named xs f.result h n.result
 
-  module _ (ds : Declarations) (procedures : AreNamedProcedures es ds) (c : Context) (ls : List TypedName) where
+  module _ (ds : Declarations) (types : (f : ProcRef) (t : ProcedureType) → procedure_type ds None f ≡ Some t → IsNamedProcedureType t) (c : Context) (ls : List TypedName) where
     mutual
       statement_named : (i : Instr) → IsNamedInstr es i → IsStatement c ls i → AreLocals (statement_locals ds i)
       statement_named (Assign xs e) k w =
@@ -169,7 +169,7 @@ module _ (es : List Enumeration) where
       statement_named (Sample x d) k w =
           all_append IsNamedLocal (sampled x d) (read_locals d side.Own) (drawn_by x k.0 (out-Term d).ty (result_of d k.1) (out-Ty (out-Term d).ty) refl) (form_locals d k.1 side.Own)
       statement_named (Call' xs p n ts) k w =
-          all_append IsNamedLocal (returned xs (procedure_of ds p)) (row_read ts) (returned_named xs k.0 (procedure_of ds p) (procedures p)) (row_named ts k.2)
+          all_append IsNamedLocal (returned xs (procedure_type ds None p)) (row_read ts) (returned_named xs k.0 (procedure_type ds None p) (types p)) (row_named ts k.2)
       statement_named (If' e m a n b) k w =
           all_append IsNamedLocal (read_locals e side.Own) (row_locals ds a ++ row_locals ds b) (form_locals e k.0 side.Own)
           (all_append IsNamedLocal (row_locals ds a) (row_locals ds b) (rows_named a k.1 w.1) (rows_named b k.2 w.2))

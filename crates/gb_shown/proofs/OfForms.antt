@@ -5,19 +5,17 @@ use Rattle.gb_core.specs.declared.ty.Ty.{Ty}
 use Rattle.gb_terms.specs.declared.term.Term.{Term}
 use Rattle.gb_goal.specs.Answers.Answer.{given}
 use Rattle.gb_goal.specs.Scope.{Declarations}
-use Rattle.gb_script.specs.declared.head.Head.{Head}
 use Rattle.gb_script.specs.declared.tree.Node.{Node}
 use Rattle.gb_names.specs.declared.bindings.Binding.{Binding}
 use Rattle.gb_names.specs.Environment.{Name, Environment}
-use Rattle.gb_names.specs.Judgments.{Named, named_procedure}
 use Rattle.gb_names.specs.Names.{Target, target}
 use Rattle.gb_names.specs.Types.{type_of, type_or_number}
 use Rattle.gb_elab.specs.Forms.{elaborated, function}
 use Rattle.gb_shapes.specs.declared.place.Enumeration.{Enumeration}
-use Rattle.gb_readback.specs.Written.{is_target_here, IsWrittenProcedure, IsWrittenType}
+use Rattle.gb_readback.specs.Written.{is_target_here, IsWrittenType}
 use Rattle.gb_spelt_laws.specs.Named.{IsNamed, IsNamedType}
 use Rattle.gb_spelt_laws.specs.Rules.{HasFirst}
-use Rattle.gb_shown.specs.Scopes.{IsNamedMember, IsNamedScope, IsNamedSetting, AreNamedBindings, IsNamedWanted}
+use Rattle.gb_shown.specs.Scopes.{IsNamedScope, IsNamedSetting, AreNamedBindings, IsNamedWanted}
 use Rattle.gb_shown.specs.Words.{IsReadTree}
 
 -- a type that a script writes
@@ -33,6 +31,4 @@ pub record OfForms : Type 0 where
       (f : Term) → function t at from to ≡ given f → IsNamed es f
   pub type : (es : List Enumeration) (ds : Declarations) → IsNamedScope es ds → (t : Node) → IsReadTree t → (u : Ty) → type_of ds t ≡ given u → IsTypeWritten es u
   pub number : (es : List Enumeration) (ds : Declarations) → IsNamedScope es ds → (t : Node) → IsReadTree t → (u : Ty) → type_or_number ds t ≡ given u → IsNamedType u
-  pub procedure : (es : List Enumeration) (at : Environment) → IsNamedSetting es at → (bs : List Binding) (h : Head) (ps : List Node) (p : Place) (m : Named) → named_procedure at bs h ps p ≡ given m →
-      IsWrittenProcedure [] m.0 × IsNamedMember es m.1
   pub target : (es : List Enumeration) (at : Environment) → IsNamedSetting es at → (x : Name) (p : Place) (v : Target) → target at x p ≡ given v → (is_target_here [] v.0 ≡ true) × IsNamedType v.1

@@ -2,7 +2,6 @@
 use Rattle.std.proofs.Common.{◌≡◌, ℕ, ◌-◌, Bool, true, false, if◌then◌else◌, bytes_eq, codes, List, [], ◌∷◌, length, take, drop, Option, Some, None, refl, subst}
 use Rattle.gb_core.specs.declared.place.Place.{Place}
 use Rattle.gb_core.specs.declared.ty.Ty.TheVariants as ty
-use Rattle.gb_terms.specs.declared.decl.Proc.{Proc}
 use Rattle.gb_terms.specs.declared.decl.TypedName.{TypedName}
 use Rattle.gb_terms.specs.declared.module.ProcRef.{ProcRef}
 use Rattle.gb_terms.specs.declared.op.Rel.TheVariants as rel
@@ -17,7 +16,8 @@ use Rattle.gb_goal.specs.Answers.Answer.{given}
 use Rattle.gb_goal.specs.Goal.{Goal, goal_at, goal_of}
 use Rattle.gb_goal.specs.Goal.Code.{body, procedure}
 use Rattle.gb_goal.specs.Goal.Goal.{hoare, phoare, equiv}
-use Rattle.gb_goal.specs.Scope.{Declarations, procedure_of}
+use Rattle.gb_goal.specs.Interfaces.{ProcedureType, procedure_type}
+use Rattle.gb_goal.specs.Scope.{Declarations}
 use Rattle.gb_goal.specs.declared.sequent.Sequent.{Sequent}
 use Rattle.gb_script.specs.declared.head.Head.{Head as Kind}
 use Rattle.gb_script.specs.declared.head.Head.TheVariants as text
@@ -45,11 +45,12 @@ use Rattle.gb_typing.specs.Goals.{IsGoalOver}
 use Rattle.gb_typing.specs.Scopes.{context_of}
 use Rattle.gb_typing.specs.Sequents.{of_sequent, IsTypedSequent}
 use Rattle.gb_typing.proofs.TypedGoals.{conclusion_goal}
-use Rattle.gb_names.specs.Environment.{ambient as ambient_in, relational, unary}
-use Rattle.gb_names.specs.Judgments.{named_procedure}
+use Rattle.gb_names.specs.Environment.{Environment, ambient as ambient_in, relational, unary}
+use Rattle.gb_names.specs.Judgments.{Named as Reference, functor_procedure, named_procedure}
 use Rattle.gb_elab.specs.Forms.{elaborated}
 use Rattle.gb_elab_mod.specs.Multiples.{hypothesis_at, multiples, position}
-use Rattle.gb_elab_mod.specs.Steps.{functions_of, acts, on_all, plain_rule, cut_of, chance_rule, both_rule, named_rule, conclusion_rule, formed, params_if, result_if, last_procedure, contract_of, contract_of_both, contract_on, contract_at, call_rule, related, said_around, by_phoare_rule, by_equiv_rule, by_rule, between_of, between_by, between_with, between_at, transitive_rule, asked_of, value_witness, memory_witness, witness_rule, pattern, passing_rule, placed_rule, transforming_rule, event_law_rule, if_there, splitting_rule, event_rule, equals_rule, used_rule, calls_of, inlining_rule, looping_rule, have_rule, typed_rule, step_given}
+use Rattle.gb_elab_mod.specs.OnPrograms.{functions_of, acts, on_all, plain_rule, cut_of, chance_rule, both_rule, named_rule, params_if, result_if, last_procedure, contract_of, contract_of_both, contract_on, contract_at, call_rule, related, said_around, by_phoare_rule, by_equiv_rule, by_rule, between_of, procedures_of, Contracts, contracts, between_by, between_words, between_functor, between_at, transitive_rule}
+use Rattle.gb_elab_mod.specs.Steps.{conclusion_rule, formed, asked_of, value_witness, memory_witness, witness_rule, pattern, passing_rule, placed_rule, transforming_rule, event_law_rule, if_there, splitting_rule, event_rule, equals_rule, used_rule, calls_of, inlining_rule, looping_rule, have_rule, typed_rule, step_given}
 use Rattle.gb_elab_mod.specs.Taken.{new_name}
 use Rattle.gb_elab_mod.specs.Uses.{all_hinted, defined_operator, hypothesis, is_memory, memory_of, used}
 use Rattle.gb_elab_prog.specs.Unbuilt.{absent}
@@ -61,8 +62,10 @@ use Rattle.gb_spelt_laws.specs.Rules.{AreNamedArguments, IsNamedRelational, IsNa
 use Rattle.gb_spelt_laws.proofs.Forms.{as_result}
 use Rattle.gb_spelt_laws.proofs.NamedGoals.{no_front}
 use Rattle.gb_spelt_laws.proofs.Trees.{parts_named}
+use Rattle.gb_shown.specs.Laws.{IsNamedReference}
 use Rattle.gb_shown.specs.Scopes.{IsNamedScope, IsNamedWanted}
 use Rattle.gb_shown.specs.Words.{HasItsNames, IsName, IsReadTree}
+use Rattle.gb_shown.proofs.Judged.{functor_is, named_is}
 use Rattle.gb_shown.proofs.OfForms.{OfForms}
 use Rattle.gb_shown.proofs.Settings.{ambient_named, relational_named, unary_named}
 use Rattle.gb_shown.proofs.Trees.{AreRead, drop_read, node_read, parts_read}
@@ -184,16 +187,16 @@ module _ (forms : OfForms) (es : List Enumeration) (ds : Declarations) (k : IsNa
       (λ e. choice (AreNamedArguments es) (bytes_eq x (codes "mu_le1")) (rule.Probability (probability_rule.Within rel.AtMost)) _ r tt (λ e. none_built p r e) e) e) e) e) e) e) e
 
   -- where a procedure isn't declared, the rule has no arguments
-  declared_named : (o : Option Proc) (a : Answer Rule) → Gives a → Gives (if_there o a)
+  declared_named : (o : Option ProcedureType) (a : Answer Rule) → Gives a → Gives (if_there o a)
   declared_named (Some p) a h r e = h r e
   declared_named None a h r e = subst (AreNamedArguments es) (given_is _ r e) tt
 
   splitting_named : (t : Node) → IsReadTree t → (o : Option ProcRef) → Gives (splitting_rule ds q t o)
   unfolding splitting_rule
-  splitting_named t l (Some f) r e = declared_named (procedure_of ds f) (event >>= split) by_event r e
+  splitting_named t l (Some f) r e = declared_named (procedure_type ds None f) (event >>= split) by_event r e
     where
       event : Answer Term
-      event = elaborated t (unary ds q (result_if (procedure_of ds f))) [] (Some ty.Bool)
+      event = elaborated t (unary ds q (result_if (procedure_type ds None f))) [] (Some ty.Bool)
 
       split : Term → Answer Rule
       split g = given (rule.Rewrite (rewrite_rule.Law (event_law.Split f g)))
@@ -280,16 +283,16 @@ module _ (forms : OfForms) (es : List Enumeration) (ds : Declarations) (k : IsNa
   unfolding contract_of
   contract_named a pre post l m None r e = subst (AreNamedArguments es) (given_is _ r e) tt
   contract_named a pre post l m (Some f) r e =
-      let b = given_bind (elaborated pre (unary ds q (params_if (procedure_of ds f))) [] (Some ty.Bool)) _ r e in
-      let c = given_bind (elaborated post (unary ds q (result_if (procedure_of ds f))) [] (Some ty.Bool)) _ r b.2 in
+      let b = given_bind (elaborated pre (unary ds q (params_if (procedure_type ds None f))) [] (Some ty.Bool)) _ r e in
+      let c = given_bind (elaborated post (unary ds q (result_if (procedure_type ds None f))) [] (Some ty.Bool)) _ r b.2 in
       subst (AreNamedArguments es) (given_is _ r c.2)
       (truth_named forms es ds k q n _ (unary_named es ds k q n _ (params_local forms es ds k q n f)) pre l b.0 b.1, truth_named forms es ds k q n _ (unary_named es ds k q n _ (results_local forms es ds k q n f)) post m c.0 c.1)
 
   contract_both_named : (a : Acts) (pre post : Node) → IsReadTree pre → IsReadTree post → (o u : Option ProcRef) → Gives (contract_of_both ds q a pre post o u)
   unfolding contract_of_both
   contract_both_named a pre post l m (Some f) (Some g) r e =
-      let b = given_bind (elaborated pre (relational ds q (params_if (procedure_of ds f)) (params_if (procedure_of ds g))) [] (Some ty.Bool)) _ r e in
-      let c = given_bind (elaborated post (relational ds q (result_if (procedure_of ds f)) (result_if (procedure_of ds g))) [] (Some ty.Bool)) _ r b.2 in
+      let b = given_bind (elaborated pre (relational ds q (params_if (procedure_type ds None f)) (params_if (procedure_type ds None g))) [] (Some ty.Bool)) _ r e in
+      let c = given_bind (elaborated post (relational ds q (result_if (procedure_type ds None f)) (result_if (procedure_type ds None g))) [] (Some ty.Bool)) _ r b.2 in
       subst (AreNamedArguments es) (given_is _ r c.2)
       (truth_named forms es ds k q n _ (relational_named es ds k q n _ _ (params_local forms es ds k q n f) (params_local forms es ds k q n g)) pre l b.0 b.1, truth_named forms es ds k q n _ (relational_named es ds k q n _ _ (results_local forms es ds k q n f) (results_local forms es ds k q n g)) post m c.0 c.1)
   contract_both_named a pre post l m None u r e = subst (AreNamedArguments es) (given_is _ r e) tt
@@ -321,8 +324,8 @@ module _ (forms : OfForms) (es : List Enumeration) (ds : Declarations) (k : IsNa
   related_named : (pre post : Node) → IsReadTree pre → IsReadTree post → (f g : ProcRef) (x : Term × Term) → related ds q pre post f g ≡ given x → Named x.0 × Named x.1
   unfolding related
   related_named pre post l m f g x e =
-      let b = given_bind (elaborated pre (relational ds q (params_if (procedure_of ds f)) (params_if (procedure_of ds g))) [] (Some ty.Bool)) _ x e in
-      let c = given_bind (elaborated post (relational ds q (result_if (procedure_of ds f)) (result_if (procedure_of ds g))) [] (Some ty.Bool)) _ x b.2 in
+      let b = given_bind (elaborated pre (relational ds q (params_if (procedure_type ds None f)) (params_if (procedure_type ds None g))) [] (Some ty.Bool)) _ x e in
+      let c = given_bind (elaborated post (relational ds q (result_if (procedure_type ds None f)) (result_if (procedure_type ds None g))) [] (Some ty.Bool)) _ x b.2 in
       subst (λ (z : Term × Term). Named z.0 × Named z.1) (given_is (b.0, c.0) x c.2)
       (truth_named forms es ds k q n _ (relational_named es ds k q n _ _ (params_local forms es ds k q n f) (params_local forms es ds k q n g)) pre l b.0 b.1, truth_named forms es ds k q n _ (relational_named es ds k q n _ _ (results_local forms es ds k q n f) (results_local forms es ds k q n g)) post m c.0 c.1)
 
@@ -331,8 +334,8 @@ module _ (forms : OfForms) (es : List Enumeration) (ds : Declarations) (k : IsNa
   around_named : (pre post : Node) → IsReadTree pre → IsReadTree post → (f : ProcRef) (x : Term × Term) → said_around ds q pre post f ≡ given x → Named x.0 × Named x.1
   unfolding said_around
   around_named pre post l m f x e =
-      let b = given_bind (elaborated pre (unary ds q (params_if (procedure_of ds f))) [] (Some ty.Bool)) _ x e in
-      let c = given_bind (elaborated post (unary ds q (result_if (procedure_of ds f))) [] (Some ty.Bool)) _ x b.2 in
+      let b = given_bind (elaborated pre (unary ds q (params_if (procedure_type ds None f))) [] (Some ty.Bool)) _ x e in
+      let c = given_bind (elaborated post (unary ds q (result_if (procedure_type ds None f))) [] (Some ty.Bool)) _ x b.2 in
       subst (λ (z : Term × Term). Named z.0 × Named z.1) (given_is (b.0, c.0) x c.2)
       (truth_named forms es ds k q n _ (unary_named es ds k q n _ (params_local forms es ds k q n f)) pre l b.0 b.1, truth_named forms es ds k q n _ (unary_named es ds k q n _ (results_local forms es ds k q n f)) post m c.0 c.1)
 
@@ -357,34 +360,66 @@ module _ (forms : OfForms) (es : List Enumeration) (ds : Declarations) (k : IsNa
       by_name false true e = by_equiv_named pre post l m (chances_of q.conclusion) r e
       by_name false false e = none_built p r e
 
-  between_named : (ws : List Node) (a b c d : Node) → IsReadTree a → IsReadTree b → IsReadTree c → IsReadTree d → (p : Place) (f g : ProcRef) → Gives (between_of ds q ws a b c d p f g)
+  between_named : (m : Reference) → IsNamedReference m → (a b c d : Node) → IsReadTree a → IsReadTree b → IsReadTree c → IsReadTree d → (f g : ProcRef) → Gives (between_of ds q m a b c d f g)
   unfolding between_of
-  between_named ws a b c d l1 l2 l3 l4 p f g r e =
-      let m = given_bind (named_procedure (ambient_in ds q) [] text.ProcedurePath ws p) _ r e in
-      let x = given_bind (related ds q a b f m.0.0) _ r m.2 in
-      let y = given_bind (related ds q c d m.0.0 g) _ r x.2 in
-      let procedure_written = forms.procedure es (ambient_in ds q) (ambient_named es ds k q n) [] text.ProcedurePath ws p m.0 m.1 in
-      let u = related_named a b l1 l2 f m.0.0 x.0 x.1 in
-      let v = related_named c d l3 l4 m.0.0 g y.0 y.1 in
-      subst (AreNamedArguments es) (given_is _ r y.2) (record { procedure = procedure_written.0; left_pre = u.0; left_post = u.1; right_pre = v.0; right_post = v.1 })
+  between_named m w a b c d l1 l2 l3 l4 f g r e =
+      let x = given_bind (related ds q a b f m.0) _ r e in
+      let y = given_bind (related ds q c d m.0 g) _ r x.2 in
+      let u = related_named a b l1 l2 f m.0 x.0 x.1 in
+      let v = related_named c d l3 l4 m.0 g y.0 y.1 in
+      subst (AreNamedArguments es) (given_is _ r y.2) (record { procedure = w.written; left_pre = u.0; left_post = u.1; right_pre = v.0; right_post = v.1 })
 
-  between_by_named : (xs : List Node) (a b : Node) → IsReadTree a → IsReadTree b → (ns : List Node) → AreRead ns → (G : Goal) (p : Place) → Gives (between_by ds q xs a b ns G p)
-  between_by_named (x ∷ xs) a b l m (c ∷ d ∷ []) v (equiv (procedure f) (procedure g) u w) p r e = between_named (x ∷ xs) a b c d l m v.0 v.1.0 (place_of x) f g r e
-  between_by_named (x ∷ xs) a b l m (c ∷ d ∷ []) v _ p r e = subst (AreNamedArguments es) (given_is _ r e) tt
-  between_by_named (x ∷ xs) a b l m [] v G p r e = none_built p r e
-  between_by_named (x ∷ xs) a b l m (c ∷ []) v G p r e = none_built p r e
-  between_by_named (x ∷ xs) a b l m (c ∷ d ∷ z ∷ ns) v G p r e = none_built p r e
-  between_by_named [] a b l m ns v G p r e = none_built p r e
+  -- both contracts are read
+  abbrev AreReadContracts : Option Contracts → Type 0
+  AreReadContracts None = Unit {0}
+  AreReadContracts (Some c) = (IsReadTree c.0.0 × IsReadTree c.0.1) × (IsReadTree c.1.0 × IsReadTree c.1.1)
 
-  between_with_named : (xs ns : List Node) → AreRead ns → (p : Place) → Gives (between_with ds q xs ns p)
-  between_with_named xs (a ∷ b ∷ m ∷ []) l p r e = between_by_named xs a b l.0 l.1.0 (parts_of m) (parts_read m l.1.1.0) (goal_of q.conclusion) p r e
-  between_with_named xs [] l p r e = none_built p r e
-  between_with_named xs (a ∷ []) l p r e = none_built p r e
-  between_with_named xs (a ∷ b ∷ []) l p r e = none_built p r e
-  between_with_named xs (a ∷ b ∷ m ∷ n ∷ ns) l p r e = none_built p r e
+  contracts_read : (xs ys : List Node) → AreRead xs → AreRead ys → AreReadContracts (contracts xs ys)
+  contracts_read (a ∷ b ∷ []) (c ∷ d ∷ []) l m = ((l.0, l.1.0), (m.0, m.1.0))
+  contracts_read [] ys l m = tt
+  contracts_read (a ∷ []) ys l m = tt
+  contracts_read (a ∷ b ∷ z ∷ xs) ys l m = tt
+  contracts_read (a ∷ b ∷ []) [] l m = tt
+  contracts_read (a ∷ b ∷ []) (c ∷ []) l m = tt
+  contracts_read (a ∷ b ∷ []) (c ∷ d ∷ z ∷ ys) l m = tt
+
+  between_by_named : (a : Answer Reference) → ((m : Reference) → a ≡ given m → IsNamedReference m) → (c : Option Contracts) → AreReadContracts c → (o : Option (ProcRef × ProcRef)) (p : Place) →
+      Gives (between_by ds q a c o p)
+  between_by_named a w None l o p r e = none_built p r e
+  between_by_named a w (Some c) l None p r e = subst (AreNamedArguments es) (given_is _ r e) tt
+  between_by_named a w (Some c) l (Some z) p r e =
+      let m = given_bind a _ r e in between_named m.0 (w m.0 m.1) c.0.0 c.0.1 c.1.0 c.1.1 l.0.0 l.0.1 l.1.0 l.1.1 z.0 z.1 r m.2
+
+  abbrev here : Environment
+  here = ambient_in ds q
+
+  words_between : (xs ns : List Node) → AreRead ns → (p : Place) → Gives (between_words ds q xs ns p)
+  words_between (x ∷ xs) (a ∷ b ∷ c ∷ []) l p r e =
+      between_by_named (named_procedure here [] text.ProcedurePath (x ∷ xs) (place_of x))
+      (λ m i. named_is es here (ambient_named es ds k q n) [] text.ProcedurePath (x ∷ xs) (place_of x) m i)
+      (contracts (a ∷ b ∷ []) (parts_of c)) (contracts_read (a ∷ b ∷ []) (parts_of c) (l.0, (l.1.0, tt)) (parts_read c l.1.1.0)) (procedures_of (goal_of q.conclusion)) p r e
+  words_between [] ns l p r e = none_built p r e
+  words_between (x ∷ xs) [] l p r e = none_built p r e
+  words_between (x ∷ xs) (a ∷ []) l p r e = none_built p r e
+  words_between (x ∷ xs) (a ∷ b ∷ []) l p r e = none_built p r e
+  words_between (x ∷ xs) (a ∷ b ∷ c ∷ z ∷ ns) l p r e = none_built p r e
+
+  functor_between : (xs ns : List Node) → AreRead ns → (p : Place) → Gives (between_functor ds q xs ns p)
+  functor_between (x ∷ xs) (m ∷ ms ∷ f ∷ c ∷ d ∷ []) l p r e =
+      between_by_named (functor_procedure here [] x xs (m ∷ parts_of ms) f (place_of x))
+      (λ u i. functor_is es here (ambient_named es ds k q n) [] x xs (m ∷ parts_of ms) f (place_of x) u i)
+      (contracts (parts_of c) (parts_of d)) (contracts_read (parts_of c) (parts_of d) (parts_read c l.1.1.1.0) (parts_read d l.1.1.1.1.0)) (procedures_of (goal_of q.conclusion)) p r e
+  functor_between [] ns l p r e = none_built p r e
+  functor_between (x ∷ xs) [] l p r e = none_built p r e
+  functor_between (x ∷ xs) (a ∷ []) l p r e = none_built p r e
+  functor_between (x ∷ xs) (a ∷ b ∷ []) l p r e = none_built p r e
+  functor_between (x ∷ xs) (a ∷ b ∷ c ∷ []) l p r e = none_built p r e
+  functor_between (x ∷ xs) (a ∷ b ∷ c ∷ d ∷ []) l p r e = none_built p r e
+  functor_between (x ∷ xs) (a ∷ b ∷ c ∷ d ∷ f ∷ z ∷ ns) l p r e = none_built p r e
 
   between_at_named : (h : Kind) (ns : List Node) → AreRead ns → (p : Place) → Gives (between_at ds q h ns p)
-  between_at_named text.PlainTransitivity ns l p r e = between_with_named (take (length ns - 3) ns) (drop (length ns - 3) ns) (drop_read (length ns - 3) ns l) p r e
+  between_at_named text.PlainTransitivity ns l p r e = words_between (take (length ns - 3) ns) (drop (length ns - 3) ns) (drop_read (length ns - 3) ns l) p r e
+  between_at_named text.FunctorTransitivity ns l p r e = functor_between (take (length ns - 5) ns) (drop (length ns - 5) ns) (drop_read (length ns - 5) ns l) p r e
   between_at_named _ ns l p r e = none_built p r e
 
   transitive_named : (a : Acts) (h : Kind) (ns : List Node) → AreRead ns → (p : Place) → Gives (transitive_rule ds q a h ns p)

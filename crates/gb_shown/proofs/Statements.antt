@@ -155,9 +155,8 @@ module _ (forms : OfForms) (es : List Enumeration) where
     tuple_assigned ts h (u ∷ v ∷ us) r p i e = absurd (cc)
 
     result_named : (vs : List Target) → AreTargets vs → (h : Head) (ps : List Node) → AreRead ps → (p : Place) → Gives (result_to at vs h ps p)
-    result_named vs k head.Call (x ∷ ps) r p i e = call_named forms es at s vs k x (words ps) (written ps) (drop_read (pred (length ps)) ps r.1) p i e
-    result_named vs k head.Call [] r p i e = absurd (cc)
-    result_named vs k _ ps r p i e = absurd (cc)
+    result_named vs k h (x ∷ ps) r p i e = call_named forms es at s vs k h x ps r.1 p i e
+    result_named vs k h [] r p i e = absurd (cc)
 
     called_to_named : (vs : List Target) → AreTargets vs → (cs : List Node) → AreRead cs → (p : Place) → Gives (called_to at vs cs p)
     called_to_named vs k (c ∷ []) r p i e = result_named vs k (head_of c) (parts_of c) (parts_read c r.0) (place_of c) i e
@@ -204,7 +203,8 @@ module _ (forms : OfForms) (es : List Enumeration) where
     instruction_named head.Assign x ps f k r p i e = assignment_named (dotted (text_of x) (words ps)) (written ps) (drop_read (pred (length ps)) ps r) p i e
     instruction_named head.Store x ps f k r p i e = stored_named _ (drop (pred (pred (length ps))) ps) (drop_read (pred (pred (length ps))) ps r) p i e
     instruction_named head.AssignCall x ps f k r p i e = result_in_named (dotted (text_of x) (words ps)) (written ps) (drop_read (pred (length ps)) ps r) p i e
-    instruction_named head.Call x ps f k r p i e = call_named forms es at s [] tt x (words ps) (written ps) (drop_read (pred (length ps)) ps r) p i e
+    instruction_named head.Call x ps f k r p i e = call_named forms es at s [] tt head.Call x ps r p i e
+    instruction_named head.FunctorCall x ps f k r p i e = call_named forms es at s [] tt head.FunctorCall x ps r p i e
     instruction_named head.TupleStatement x (w ∷ []) f k r p i e = written_to_named (parts_of x) f (head_of w) (parts_of w) (parts_read w r.0) p i e
     instruction_named head.TupleStatement x [] f k r p i e = absurd (cc)
     instruction_named head.TupleStatement x (w ∷ u ∷ ws) f k r p i e = absurd (cc)

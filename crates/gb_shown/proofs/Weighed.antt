@@ -25,7 +25,7 @@ use Rattle.gb_names.specs.declared.names.Known.{Known}
 use Rattle.gb_names.specs.declared.names.Known.TheVariants as known
 use Rattle.gb_names.specs.Allowed.{distribution_here}
 use Rattle.gb_names.specs.Environment.{Name, Environment}
-use Rattle.gb_names.specs.Names.{constant_at, hidden, known_at, named}
+use Rattle.gb_names.specs.Names.{constant_at, covered, known_at, named}
 use Rattle.gb_names.specs.Wanted.{wanted}
 use Rattle.gb_operators.specs.Kinds.{outcome}
 use Rattle.gb_operators.specs.Operators.{part_wanted}
@@ -73,7 +73,7 @@ module _ (es : List Enumeration) where
     constant_word : (x : Name) (p : Place) (k : Constant) → constant_of at bs x p ≡ given k → IsWord k
     constant_word x p k h =
         chosen IsWord given (constant_at at bs x) _ k
-        (λ y i e. subst IsWord (given_is y k e) (constant_found es at.declared scope x y (if_none (hidden at bs x) (constant_named at.declared x) y i)))
+        (λ y i e. subst IsWord (given_is y k e) (constant_found es at.declared scope x y (if_none (covered at bs x) (constant_named at.declared x) y i)))
         (chosen IsWord (λ b. built_in_constant b p) (known_at at bs x) (no_constant at bs x p) k (λ b i e. built_in_word b p k e)
         (λ e. let q = given_bind (named at bs x p) (λ _. refused Argument p) k e in absurd (not_given Argument p k q.2)))
         h

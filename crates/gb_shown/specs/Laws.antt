@@ -18,7 +18,7 @@ use Rattle.gb_shapes.specs.declared.place.Enumeration.{Enumeration}
 use Rattle.gb_readback.specs.Written.{is_target_here, IsWrittenType, IsWrittenProcedure}
 use Rattle.gb_spelt_laws.specs.Named.{IsNamedType, IsNamedResult, IsNamed}
 use Rattle.gb_spelt_laws.specs.Rules.{HasFirst}
-use Rattle.gb_shown.specs.Scopes.{IsNamedMember, IsNamedScope, IsNamedSetting, AreNamedBindings, IsNamedWanted}
+use Rattle.gb_shown.specs.Scopes.{IsNamedProcedureType, IsNamedScope, IsNamedSetting, AreNamedBindings, IsNamedWanted}
 use Rattle.gb_shown.specs.Trees.{IsFullTree}
 
 -- What a type spells is one that forms are printed with, in which there is no `glob`.
@@ -42,28 +42,28 @@ FunctionsAreNamed =
     (es : List Enumeration) (t : Node) → IsFullTree t → (at : Environment) → IsNamedSetting es at → (a b : Ty) → IsNamedType a → IsNamedResult b →
     (u : Term) → function t at a b ≡ given u → IsNamed es u
 
--- a procedure as a term names it, and what it is
-pub record IsNamedProcedureOf (es : List Enumeration) (n : Named) : Type 0 where
+-- a procedure as a term names it, and its types
+pub record IsNamedReference (n : Named) : Type 0 where
   pub written : IsWrittenProcedure [] n.0
-  pub member : IsNamedMember es n.1
+  pub typed : IsNamedProcedureType n.1
 
 -- A procedure that words name can be written, and is named.
 abbrev pub ProceduresAreNamed : Type 0
 ProceduresAreNamed =
-    (es : List Enumeration) (at : Environment) → IsNamedScope es at.declared → (bs : List Binding) (k : Head) (xs : List Node) (p : Place) (n : Named) → named_procedure at bs k xs p ≡ given n →
-    IsNamedProcedureOf es n
+    (es : List Enumeration) (at : Environment) → IsNamedSetting es at → (bs : List Binding) (k : Head) (xs : List Node) (p : Place) (n : Named) → named_procedure at bs k xs p ≡ given n →
+    IsNamedReference n
 
 -- So is one that a judgment is about.
 abbrev pub JudgedAreNamed : Type 0
 JudgedAreNamed =
-    (es : List Enumeration) (at : Environment) → IsNamedScope es at.declared → (bs : List Binding) (f : Node) (p : Place) (n : Named) → one_procedure at bs f p ≡ given n →
-    IsNamedProcedureOf es n
+    (es : List Enumeration) (at : Environment) → IsNamedSetting es at → (bs : List Binding) (f : Node) (p : Place) (n : Named) → one_procedure at bs f p ≡ given n →
+    IsNamedReference n
 
 -- So are both procedures of a judgment of two.
 abbrev pub BothAreNamed : Type 0
 BothAreNamed =
-    (es : List Enumeration) (at : Environment) → IsNamedScope es at.declared → (bs : List Binding) (f g : Node) (p : Place) (n : Named × Named) → both_procedures at bs f g p ≡ given n →
-    IsNamedProcedureOf es n.0 × IsNamedProcedureOf es n.1
+    (es : List Enumeration) (at : Environment) → IsNamedSetting es at → (bs : List Binding) (f g : Node) (p : Place) (n : Named × Named) → both_procedures at bs f g p ≡ given n →
+    IsNamedReference n.0 × IsNamedReference n.1
 
 -- A variable that a statement writes can be written in the language, at its type.
 abbrev pub TargetsAreNamed : Type 0

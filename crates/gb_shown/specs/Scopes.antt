@@ -3,9 +3,12 @@ use Rattle.std.specs.Prelude.{◌≡◌, true, List, [], Option, Some, None}
 use Rattle.std.specs.List.{AllByRecursion}
 use Rattle.gb_core.specs.declared.ty.Ty.{Ty, out-Ty}
 use Rattle.gb_terms.specs.declared.decl.Module.{Module}
+use Rattle.gb_terms.specs.declared.decl.Param.{Param}
 use Rattle.gb_terms.specs.declared.decl.Proc.{Proc}
 use Rattle.gb_terms.specs.declared.decl.TypedName.{TypedName}
+use Rattle.gb_goal.specs.Interfaces.{Interface, Procedures, ProcedureType}
 use Rattle.gb_goal.specs.Scope.{Declarations}
+use Rattle.gb_goal.specs.declared.module_type.Signature.{Signature}
 use Rattle.gb_goal.specs.declared.scope.Entry.{Entry}
 use Rattle.gb_goal.specs.declared.scope.Entry.TheVariants as entry
 use Rattle.gb_goal.specs.declared.sequent.Sequent.{Sequent}
@@ -27,12 +30,32 @@ pub record IsNamedMember (es : List Enumeration) (p : Proc) : Type 0 where
   pub name : is_name_text p.name ≡ true
   pub procedure : IsNamedProcedure es p
 
--- a module without parameters: those with some can't be declared yet
+-- a parameter of a module, under which procedures of the module call those of the module that is given for it
+abbrev pub IsNamedParam : Param → Type 0
+IsNamedParam q = is_name_text q.name ≡ true
+
 pub record IsNamedModule (es : List Enumeration) (m : Module) : Type 0 where
   pub name : is_name_text m.name ≡ true
-  pub plain : m.params ≡ []
+  pub params : AllByRecursion IsNamedParam m.params
   pub globals : AllByRecursion IsNamedVariable m.globals
   pub procs : AllByRecursion (IsNamedMember es) m.procs
+
+-- the types of a procedure: those of its parameters, each with its name, and that of its result
+pub record IsNamedProcedureType (t : ProcedureType) : Type 0 where
+  pub params : AllByRecursion IsNamedVariable t.params
+  pub result : IsNamedType t.result
+
+-- a procedure that a module type asks for
+pub record IsNamedSignature (s : Signature) : Type 0 where
+  pub name : is_name_text s.name ≡ true
+  pub typed : IsNamedProcedureType (record { params = s.params; result = s.result })
+
+-- the procedures of which a module is known from outside
+abbrev pub AreNamedTypes : Procedures ProcedureType → Type 0
+AreNamedTypes ps = AllByRecursion (λ p. (is_name_text p.0 ≡ true) × IsNamedProcedureType p.1) ps
+
+abbrev pub IsNamedInterface : Interface → Type 0
+IsNamedInterface i = AreNamedTypes i.procedures
 
 -- what a lemma states
 pub record IsNamedStatement (es : List Enumeration) (q : Sequent) : Type 0 where
@@ -45,7 +68,7 @@ IsNamedEntry es (entry.Module m) = IsNamedModule es m
 IsNamedEntry es (entry.Lemma q bs) = IsNamedStatement es q
 IsNamedEntry es (entry.Type t) = IsWrittenType 0 [] t × HasFirst es t
 IsNamedEntry es entry.AbstractType = Unit {0}
-IsNamedEntry es (entry.ModuleType y) = Unit {0}
+IsNamedEntry es (entry.ModuleType t) = AllByRecursion IsNamedSignature t.signatures
 IsNamedEntry es (entry.Constant c) = IsNamedType c.ty × (is_word_here es (out-Ty c.ty) c.number ≡ true)
 IsNamedEntry es (entry.Operator o) = AllByRecursion IsNamedType o.params × IsNamed es o.body
 IsNamedEntry es (entry.AbstractOperator o) = AllByRecursion IsNamedType o.params × IsNamedType o.result

@@ -130,16 +130,16 @@ fn reads_by(
 {
     let mut all = Items::new(alloc);
     for x in list {
-        let Some(procedure) = scope.procedure(x.get()) else {
+        let Some(procedure) = scope.procedure(alloc, x.get())? else {
             return Ok(None);
         };
-        let own = procedure_reads(alloc, procedure)?;
+        let own = procedure_reads(alloc, procedure.get())?;
         all = with_variables(all, own.as_slice())?;
     }
     Ok(Some(all))
 }
 
-/// The globals that procedures read, through every procedure that they call. None where one of these isn't declared by its name.
+/// The globals that procedures read, through every procedure that they call. None where one of these isn't declared.
 #[tactic(auto, unfolding(crate::specs::Reads::reached_reads))]
 pub fn reached_reads(
     alloc: Global,

@@ -122,7 +122,7 @@ module _ (es : List Enumeration) where
 
   module _ (ds : Declarations) (procedures : AreNamedProcedures es ds) where
     declared_named : (k : LastCall) → NamedCall k → (a : Option Proc) → procedure_of ds k.procedure ≡ a → (ws : Option (List Var)) → (c : Callee) → callee k a ws ≡ Some c → NamedCallee c
-    declared_named k m (Some a) h (Some ws) c e = subst NamedCallee (same_Some _ c e) (record { call = m; declared = procedures k.procedure a h })
+    declared_named k m (Some a) h (Some ws) c e = subst NamedCallee (same_Some _ c e) (record { call = m; declared = procedures k.procedure m.procedure a h })
     declared_named k m (Some a) h None c e = absurd (none-some c e)
     declared_named k m None h ws c e = absurd (none-some c e)
 

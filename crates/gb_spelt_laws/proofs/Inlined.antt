@@ -48,7 +48,7 @@ use Rattle.gb_inline.specs.Expanded.{each_set, result_set, in_place, expanded}
 use Rattle.gb_forms.specs.Firsts.{none_got, first_of, firsts}
 use Rattle.gb_inline.specs.Inlined.{is_asked, unless_unproved, asked, Expansion, side_inlined, next_inlined, statement_inlined, row_inlined, each_inlined, used, once, going_on, repeated, without_calls, inlined, or_none, or_given, both_inlined, inline_both, inline_row}
 use Rattle.gb_shapes.specs.declared.place.Enumeration.{Enumeration}
-use Rattle.gb_readback.specs.Written.{is_name_text, is_path, is_numeral_here, is_target_here, are_targets_here}
+use Rattle.gb_readback.specs.Written.{is_name_text, is_path, is_numeral_here, is_target_here, are_targets_here, IsWrittenProcedure}
 use Rattle.gb_readback.proofs.Tokens.{both}
 use Rattle.gb_spelt_laws.proofs.TypedForms.{name_path}
 use Rattle.gb_spelt_laws.specs.Named.{IsNamedType, IsNamed, IsNamedInstr, AreNamedInstrs, IsNamedVariable}
@@ -219,7 +219,7 @@ module _ (es : List Enumeration) where
 
   -- what becomes of calls is named
   abbrev Expands : Expansion → Type 0
-  Expands x = (xs : List Var) (f : ProcRef) (ts : List Term) → list_all (is_target_here []) xs ≡ true → AllNamed es ts → Gives (x xs f ts)
+  Expands x = (xs : List Var) (f : ProcRef) (ts : List Term) → list_all (is_target_here []) xs ≡ true → IsWrittenProcedure [] f → AllNamed es ts → Gives (x xs f ts)
 
   side_keeps : (e : Term) (a b : List Instr) → IsNamed es e → EachNamed es a → EachNamed es b → (o r : Option (List Instr)) → Gives o → Gives r → Gives (side_inlined e a b o r)
   side_keeps e a b x v w (Some c) r f g js h = subst (EachNamed es) (same_Some _ js h) (named_if es e (record { list = c }) (record { list = b }) x (f c refl) w, tt)
@@ -238,7 +238,7 @@ module _ (es : List Enumeration) where
   module _ (x : Expansion) (n : Expands x) where
     mutual
       statement_keeps : (i : Instr) → IsNamedInstr es i → Gives (statement_inlined x i)
-      statement_keeps (Call' xs p k ts) w = n xs p (terms_in ts) w.0 (terms_named es ts w.2)
+      statement_keeps (Call' xs p k ts) w = n xs p (terms_in ts) w.0 w.1 (terms_named es ts w.2)
       statement_keeps (If' e m a k b) w = side_keeps e (items-the_row-Instr _ a) (items-the_row-Instr _ b) w.0 (row_each es a w.1) (row_each es b w.2) (row_inlined x a) (row_inlined x b) (row_keeps a w.1) (row_keeps b w.2)
       statement_keeps (While' e v k a) w = while_keeps e v w.0 w.1 (row_inlined x a) (row_keeps a w.2)
       statement_keeps (Assign xs e) w = λ js h. absurd (none-some js h)
@@ -266,15 +266,15 @@ module _ (es : List Enumeration) where
     unproved_named None o n f e = n f e
     unproved_named (Some u) o n f e = absurd (none-some f e)
 
-    asked_named : (p : ProcRef) (f : Proc) → asked ds w p ≡ Some f → IsNamedProcedure es f
-    asked_named p f e = step (is_asked w p) e
+    asked_named : (p : ProcRef) → IsWrittenProcedure [] p → (f : Proc) → asked ds w p ≡ Some f → IsNamedProcedure es f
+    asked_named p h f e = step (is_asked w p) e
       where
         step : (b : Bool) → (if b then unless_unproved (unproved_of ds p) (procedure_of ds p) else None) ≡ Some f → IsNamedProcedure es f
-        step true e = unproved_named (unproved_of ds p) (procedure_of ds p) (λ g i. procedures p g i) f e
+        step true e = unproved_named (unproved_of ds p) (procedure_of ds p) (λ g i. procedures p h g i) f e
         step false e = absurd (none-some f e)
 
     once_keeps : (r : Side) (p q : Term) (is : List Instr) → EachNamed es is → Gives (once ds w r p q is)
-    once_keeps r p q is k = list_keeps (λ xs f ts. expanded (used r p q is) (asked ds w f) xs ts) (λ xs f ts h v js e. expanded_named (used r p q is) (asked ds w f) (asked_named f) xs h ts v js e) is k
+    once_keeps r p q is k = list_keeps (λ xs f ts. expanded (used r p q is) (asked ds w f) xs ts) (λ xs f ts h v u js e. expanded_named (used r p q is) (asked ds w f) (asked_named f v) xs h ts u js e) is k
 
     inlined_keep : (r : Side) (p q : Term) (is : List Instr) → EachNamed es is → Gives (inlined ds w r p q is)
     inlined_keep r p q is k = step (once ds w r p q is) (once_keeps r p q is k)

@@ -29,6 +29,7 @@ pub mod Rewriting
 pub mod Variants
 pub mod Transformed
 pub mod Inlined
+pub mod Reached
 pub mod Sim
 pub mod Beside
 pub mod Transformations

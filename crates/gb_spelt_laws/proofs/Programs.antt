@@ -287,17 +287,17 @@ module _ (es : List Enumeration) where
     hoare_keeps : (f : ProcRef) (p q : Term) (Gs : List Goal) (r : Option Proc) → procedure_of ds f ≡ r → proc.of_one p q r ≡ given Gs → Leads Gs (hoare (procedure f) p q)
     hoare_keeps f p q Gs None k e h = refused_given Shape Gs e
     hoare_keeps f p q Gs (Some a) k e h =
-        let n = procedures f a k in subst AllOf (same_given _ Gs e) ((n.body, h.1, changed_named es q (returned Own a ∷ []) (result_named Own a n, tt) h.2), tt)
+        let n = procedures f h.0 a k in subst AllOf (same_given _ Gs e) ((n.body, h.1, changed_named es q (returned Own a ∷ []) (result_named Own a n, tt) h.2), tt)
 
     chance_keeps : (f : ProcRef) (o : Rel) (p q b : Term) (Gs : List Goal) (r : Option Proc) → procedure_of ds f ≡ r → proc.of_chance o p q b r ≡ given Gs → Leads Gs (phoare (procedure f) o p q b)
     chance_keeps f o p q b Gs None k e h = refused_given Shape Gs e
     chance_keeps f o p q b Gs (Some a) k e h =
-        let n = procedures f a k in subst AllOf (same_given _ Gs e) ((n.body, h.1, changed_named es q (returned Own a ∷ []) (result_named Own a n, tt) h.2, h.3), tt)
+        let n = procedures f h.0 a k in subst AllOf (same_given _ Gs e) ((n.body, h.1, changed_named es q (returned Own a ∷ []) (result_named Own a n, tt) h.2, h.3), tt)
 
     equiv_keeps : (f g : ProcRef) (p q : Term) (Gs : List Goal) (x y : Option Proc) → procedure_of ds f ≡ x → procedure_of ds g ≡ y → proc.of_two p q (option_zip x y) ≡ given Gs → Leads Gs (equiv (procedure f) (procedure g) p q)
     equiv_keeps f g p q Gs (Some a) (Some b) i j e h =
-        let m = procedures f a i in
-        let n = procedures g b j in
+        let m = procedures f h.0 a i in
+        let n = procedures g h.1 b j in
         subst AllOf (same_given _ Gs e) ((m.body, n.body, h.2, changed_named es q (returned Left a ∷ returned Right b ∷ []) (result_named Left a m, (result_named Right b n, tt)) h.3), tt)
     equiv_keeps f g p q Gs None y i j e h = refused_given Shape Gs e
     equiv_keeps f g p q Gs (Some a) None i j e h = refused_given Shape Gs e

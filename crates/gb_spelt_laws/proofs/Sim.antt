@@ -45,6 +45,7 @@ use Rattle.gb_spelt_laws.specs.Rules.{IsNamedProcedure, AreNamedProcedures, Keep
 use Rattle.gb_spelt_laws.proofs.Trees.{AllNamed, node_named, terms_named, parts_named}
 use Rattle.gb_spelt_laws.proofs.Forms.{as_result, and_named, implies_named, equal_named, truth_named, every_pair_named}
 use Rattle.gb_spelt_laws.proofs.Programs.{AllOf}
+use Rattle.gb_spelt_laws.proofs.Reached.{AreWritten, all_written, row_written}
 use Rattle.gb_spelt_laws.proofs.Rows.{stepped_keep}
 use Rattle.gb_spelt_laws.proofs.Statements.{EachNamed}
 use mathlib.Core.Former.{Count}
@@ -144,17 +145,17 @@ module _ (es : List Enumeration) where
     with_named (Some f) n None k W e = absurd (none-some W e)
     with_named None n r k W e = absurd (none-some W e)
 
-    by_named : (ps : List ProcRef) → Known (reads_by ds ps)
-    by_named [] = some_known [] tt
-    by_named (p ∷ ps) = with_named (procedure_of ds p) (λ f h. procedures p f h) (reads_by ds ps) (by_named ps)
+    by_named : (ps : List ProcRef) → AreWritten ps → Known (reads_by ds ps)
+    by_named [] h = some_known [] tt
+    by_named (p ∷ ps) h = with_named (procedure_of ds p) (λ f k. procedures p h.0 f k) (reads_by ds ps) (by_named ps h.1)
 
-    all_named : (o : Option (List ProcRef)) → Known (reads_if ds o)
-    all_named None = none_known
-    all_named (Some ps) = by_named ps
+    all_named : (o : Option (List ProcRef)) → ((ps : List ProcRef) → o ≡ Some ps → AreWritten ps) → Known (reads_if ds o)
+    all_named None h = none_known
+    all_named (Some ps) h = by_named ps (h ps refl)
 
-    reached_named : (ps : List ProcRef) → Known (reached_reads ds ps)
+    reached_named : (ps : List ProcRef) → AreWritten ps → Known (reached_reads ds ps)
     unfolding reached_reads
-    reached_named ps = all_named (all_reached ds ps)
+    reached_named ps h = all_named (all_reached ds ps) (λ qs e. all_written es ds procedures ps h qs e)
 
     -- What is needed before statements.
 
@@ -175,11 +176,11 @@ module _ (es : List Enumeration) where
       statement_needs (Assign xs e) k V h = some_known (written_need (concern xs V) xs e V) (written_named (concern xs V) xs e V k.1 h)
       statement_needs (Sample x d) k V h = some_known (written_need (may_lose ds d || concern (x ∷ []) V) (x ∷ []) d V) (written_named (may_lose ds d || concern (x ∷ []) V) (x ∷ []) d V k.1 h)
       statement_needs (Call' xs p n ts) k V h =
-          map_known (λ (os : Vars). before xs (row_reads ts ++ os) V) (λ os l. before_named xs (row_reads ts ++ os) V (reads_append (row_reads ts) os (row_named ts k.2) l) h) (reached_reads ds (p ∷ [])) (reached_named (p ∷ []))
+          map_known (λ (os : Vars). before xs (row_reads ts ++ os) V) (λ os l. before_named xs (row_reads ts ++ os) V (reads_append (row_reads ts) os (row_named ts k.2) l) h) (reached_reads ds (p ∷ [])) (reached_named (p ∷ []) (k.1, tt))
       statement_needs (If' e m a n b) k V h = branches_named (term_reads e) (term_named e k.0) (row_need ds a V) (row_need ds b V) (row_needs a k.1 V h) (row_needs b k.2 V h)
       statement_needs (While' e v n a) k V h =
           let rs = term_reads e ++ (term_reads v ++ body_reads a) in
-          map_known (λ (os : Vars). joined (rs ++ os) V) (λ os l. joined_named (rs ++ os) V (reads_append rs os (statement_named (While' e v n a) k) l) h) (reached_reads ds (row_calls a)) (reached_named (row_calls a))
+          map_known (λ (os : Vars). joined (rs ++ os) V) (λ os l. joined_named (rs ++ os) V (reads_append rs os (statement_named (While' e v n a) k) l) h) (reached_reads ds (row_calls a)) (reached_named (row_calls a) (row_written es a k.2))
 
       row_needs : {n : Count} (is : Row_of-Instr n) → AreNamedInstrs es is → (V : Vars) → AreReads V → Known (row_need ds is V)
       row_needs end_of-Instr k V h = some_known V h

@@ -54,9 +54,9 @@ pub record IsNamedProcedure (es : List Enumeration) (p : Proc) : Type 0 where
   pub body : AllByRecursion (IsNamedInstr es) p.body.list
   pub value : IsNamed es p.value
 
--- each procedure of the scope
+-- each procedure of the scope that a goal may speak of: what it calls stands in place of its module's parameters
 abbrev pub AreNamedProcedures : List Enumeration → Declarations → Type 0
-AreNamedProcedures es ds = (f : ProcRef) (p : Proc) → procedure_of ds f ≡ Some p → IsNamedProcedure es p
+AreNamedProcedures es ds = (f : ProcRef) → IsWrittenProcedure [] f → (p : Proc) → procedure_of ds f ≡ Some p → IsNamedProcedure es p
 
 -- the globals of each module of the scope
 abbrev pub AreNamedGlobals : Declarations → Type 0

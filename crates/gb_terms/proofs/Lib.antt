@@ -3,3 +3,4 @@ pub mod Level
 pub mod NoteSteps
 pub mod Once
 pub mod Operators
+pub mod SameModules

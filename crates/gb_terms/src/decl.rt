@@ -51,7 +51,7 @@ impl Drop for Proc {
     }
 }
 
-pub type Procs = Items<Proc>;
+pub type Procs = Items<Shared<Proc>>;
 
 /// A module parameter and its module type.
 pub struct Param {

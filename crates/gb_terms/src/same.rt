@@ -4,6 +4,7 @@ ghost use Rattle.std.specs.Prelude.{◌≡◌, ◌↔◌, IsTrue, IsFalse};
 ghost use Rattle.gb_terms.specs.Equal.{side_eq, read_eq};
 ghost use Rattle.gb_terms.specs.Heads.{is_judgment};
 ghost use Rattle.gb_terms.specs.Operators.{op_place, op_part};
+ghost use Rattle.gb_terms.specs.SameModules.{mexp_eq};
 
 use crate::decl::TypedName;
 use crate::module::{Bind, Bound, Mexp, ProcRef};
@@ -129,6 +130,13 @@ fn same_mexps(a: &[Mexp], b: &[Mexp]) -> bool
         }
     }
     true
+}
+
+/// Whether two module expressions are one, by the test that definitions choose by.
+pub fn same_module(a: &Mexp, b: &Mexp) -> bool
+    ensures { result ≡ mexp_eq a.now b.now }
+{
+    same_mexp(a, b)
 }
 
 pub fn same_proc_ref(a: &ProcRef, b: &ProcRef) -> bool

@@ -4,7 +4,7 @@ ghost use Rattle.std.specs.Prelude.{◌≡◌, IfOk};
 ghost use Rattle.gb_terms.specs.declared.term.Head.TheVariants.{Assign, Sample, Call, If, While};
 
 use crate::decl::{Typed, TypedName};
-use crate::module::ProcRef;
+use crate::module::{Mexp, ProcRef};
 use crate::op::Read;
 use crate::term::{Cmd, Instr, Instrs, Subject, Term, Terms};
 use gb_core::copy::copy_var;
@@ -64,6 +64,25 @@ pub fn share_terms(alloc: Global, list: &[Term]) -> Result<Terms, AllocError>
         out.push(x.share()?)?;
     }
     Ok(out)
+}
+
+impl Mexp {
+    /// The same module expression: its arguments are shared.
+    pub fn share(&self, alloc: Global) -> Result<Mexp, AllocError>
+        ensures { IfOk result (λ made. made ≡ self.now) }
+    {
+        match self {
+            Mexp::Name(name) => {
+                let name = name.copy(alloc)?;
+                Ok(Mexp::Name(name))
+            }
+            Mexp::Apply(name, args) => {
+                let args = args.share()?;
+                let name = name.copy(alloc)?;
+                Ok(Mexp::Apply(name, args))
+            }
+        }
+    }
 }
 
 impl Subject {

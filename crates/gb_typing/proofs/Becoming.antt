@@ -30,7 +30,7 @@ use Rattle.gb_typing.specs.Programs.{IsExpression, IsValued, AreArguments, IsCal
 use Rattle.gb_typing.proofs.Lists.{hidden_each}
 use Rattle.gb_typing.proofs.Uses.{nothing_in}
 use Rattle.gb_typing.proofs.Wider.{wider}
-use Rattle.gb_typing.specs.Instances.{put_in_reference, call_with, row_with, calls_with}
+use Rattle.gb_goal.specs.Instances.{put_in_reference, call_with, row_with, calls_with}
 use mathlib.Core.Former.{Count}
 
 terms_row : {n : Count} (r : Row_of-Term n) → terms_in r ≡ items-the_row-Term _ r

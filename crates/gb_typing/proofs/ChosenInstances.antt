@@ -23,10 +23,10 @@ use Rattle.gb_typing.specs.Scopes.{context_of, IsTypedScope}
 use Rattle.gb_typing.specs.Sequents.{AreBinders, with_modules, of_sequent}
 use Rattle.gb_typing.proofs.ModulesAlike.{linking-looks}
 use Rattle.gb_typing.proofs.Scripts.{none_some, same_name}
-use Rattle.gb_typing.specs.Instances.{arguments_of, instance, name_of}
+use Rattle.gb_goal.specs.Instances.{arguments_of, instance, name_of}
 use Rattle.gb_typing.specs.Alike.{AreClosed}
 use Rattle.gb_typing.proofs.Follows.{linking_follows}
-use Rattle.gb_typing.proofs.LinkedProcedures.{linked_is}
+use Rattle.gb_typing.proofs.KeptPrograms.{linked_is}
 use Rattle.gb_typing.proofs.LinkedInstances.{instance_read}
 
 module _ (ds : Declarations) (scoped : IsTypedScope ds) (i : Interpretation) (unchosen : AreUnchosen i.programs ds) where

@@ -22,7 +22,7 @@ use Rattle.gb_typing.specs.Formulas.{IsKnown, with_module as with_bound}
 use Rattle.gb_typing.specs.Modules.{Modules, functor_type, of_functor_type}
 use Rattle.gb_typing.specs.Scopes.{nothing, with_declared, context_of, AreTypedAfter, IsTypedScope}
 use Rattle.gb_typing.specs.Sequents.{AreBinders, with_modules}
-use Rattle.gb_typing.proofs.LinkedProcedures.{chosen_kept, linked_is}
+use Rattle.gb_typing.proofs.KeptPrograms.{chosen_kept, linked_is}
 use Rattle.gb_typing.proofs.Settings.{chosen_or, chosen_program, agree_at, next, same_params, with_next_type}
 use Rattle.gb_typing.proofs.Settings as settings
 use Rattle.gb_typing.specs.Alike.{StandAlike, AreAbstractAlike, AreClosed}

@@ -149,7 +149,7 @@ module _ (c : Context) (before : Declarations) (n : Name) (k : KnowsDeclared bef
   next_params (lemma q) free w = has
   next_params (terminating p) free w = has
 
-scope_keeps : (ds before : Declarations) (c : Context) → AreTypedAfter c before ds → KnowsDeclared before c → Keeps c (with_each c ds)
+pub scope_keeps : (ds before : Declarations) (c : Context) → AreTypedAfter c before ds → KnowsDeclared before c → Keeps c (with_each c ds)
 scope_keeps [] before c w k = keeps_itself c
 scope_keeps ((n, d) ∷ ds) before c w k =
     keeps_on c (with_declared c n d) (with_each (with_declared c n d) ds)
@@ -191,4 +191,11 @@ pub lacked_later : (a : Context) (n : Name) (m : Module) (c : Context) → IsPla
 lacked_later a n m c p =
     let z = p.typed in let k = p.next in let l = p.later in
     same_lacked a.modules.types c.modules.types (λ h t e. l.types h t (k.types h t e)) p.params m.params
+    (known_taken (with_interface a.modules m.name (Some (interface_with a.modules.types m.params []))) m.params z.params)
+
+-- and the module types of its parameters are known there
+pub params_later : (a : Context) (n : Name) (m : Module) (c : Context) → IsPlaced a n m c → AreKnown c.modules.types m.params
+params_later a n m c p =
+    let z = p.typed in let k = p.next in let l = p.later in
+    known_on a.modules.types c.modules.types (λ h t e. l.types h t (k.types h t e)) m.params
     (known_taken (with_interface a.modules m.name (Some (interface_with a.modules.types m.params []))) m.params z.params)

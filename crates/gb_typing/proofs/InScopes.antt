@@ -17,15 +17,15 @@ use Rattle.gb_typing.specs.Modules.{ProcedureType, Interface, of_complete, proce
 use Rattle.gb_typing.specs.Programs.{IsProcedure, type_of_procedure}
 use Rattle.gb_typing.specs.Scopes.{nothing, interface_with, procedure_types, in_module, AreProcedures, context_of, IsTypedScope}
 use Rattle.gb_typing.specs.Sequents.{AreBinders, of_sequent}
-use Rattle.gb_typing.proofs.Located.{Among, among, types_split}
+use Rattle.gb_typing.proofs.Standing.{Among, among, types_split}
 use Rattle.gb_typing.proofs.Scripts.{none_some, same_some, itself}
-use Rattle.gb_typing.specs.Instances.{name_of, arguments_of, instance}
+use Rattle.gb_goal.specs.Instances.{name_of, arguments_of, instance}
 use Rattle.gb_typing.specs.Suits.{suits, lacked, Knows}
 use Rattle.gb_typing.proofs.Declaring.{knows_nothing}
 use Rattle.gb_typing.proofs.Growing.{IsPlaced, placed, placed_later, goal_keeps}
 use Rattle.gb_typing.proofs.Inside.{typed_instance, typed_plain, applied_procedure, applied_suits}
 
-found_first : (ps : List Proc) (f : Name) (p : Proc) → proc_of ps f ≡ Some p → found (procedure_types ps) f ≡ Some (type_of_procedure p)
+pub found_first : (ps : List Proc) (f : Name) (p : Proc) → proc_of ps f ≡ Some p → found (procedure_types ps) f ≡ Some (type_of_procedure p)
 found_first [] f p e = none_some p e
 found_first (x ∷ ps) f p e = step (bytes_eq f x.name) (found_first ps f p) e
   where
@@ -51,7 +51,7 @@ typed_behind a m (x ∷ front) after p before w =
 
 -- A module, declared in the context a, of which c is a later one.
 module _ (a : Context) (n : Name) (m : Module) (c : Context) (w : IsPlaced a n m c) where
-  there : c.modules.interfaces n ≡ Some (interface_with a.modules.types m.params (procedure_types m.procs))
+  pub there : c.modules.interfaces n ≡ Some (interface_with a.modules.types m.params (procedure_types m.procs))
   there = let k = w.later in
       k.interfaces n (interface_with a.modules.types m.params (procedure_types m.procs))
       (ap (λ b. if b then Some (interface_with a.modules.types m.params (procedure_types m.procs)) else a.modules.interfaces n) (itself n))

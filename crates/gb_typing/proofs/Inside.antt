@@ -16,7 +16,7 @@ use Rattle.gb_typing.specs.Programs.{IsProcedure}
 use Rattle.gb_typing.specs.Scopes.{with_params, interface_with, with_globals, in_module}
 use Rattle.gb_typing.proofs.Grown.{grown_procedure}
 use Rattle.gb_typing.proofs.Scripts.{none_some, same_name}
-use Rattle.gb_typing.specs.Instances.{name_of, arguments_of, stands_for, put_in, put_in_reference, instance}
+use Rattle.gb_goal.specs.Instances.{name_of, arguments_of, stands_for, put_in, put_in_reference, instance}
 use Rattle.gb_typing.specs.Suits.{suits, lacked, Knows}
 use Rattle.gb_typing.proofs.Served.{ServesIf, ExtendsIf, serving, extending, extends_itself, fits_serves, procedure_serves, procedure_extends}
 use Rattle.gb_typing.proofs.PutIn.{applied_is, put_in_serves, extends_at}

@@ -48,6 +48,10 @@ pub mod HiddenModule
 pub mod LinkedProcedures
 pub mod WholeReads
 pub mod Located
+pub mod Standing
+pub mod Agreed
+pub mod DeclaredTypes
+pub mod KeptPrograms
 pub mod Scripts
 pub mod Declaring
 pub mod Interfaces
@@ -113,3 +117,4 @@ pub mod Composed
 pub mod LastSampling
 pub mod Spared
 pub mod Narrowed
+pub mod DeclaredProcedures

@@ -20,9 +20,10 @@ use Rattle.gb_typing.specs.Modules as typed
 use Rattle.gb_typing.specs.Programs.{locals_of}
 use Rattle.gb_typing.specs.Scopes.{interface_with, procedure_types, in_module as in_context, context_of, IsTypedScope}
 use Rattle.gb_typing.specs.Scopes as scopes
-use Rattle.gb_typing.proofs.Located.{Among, among}
+use Rattle.gb_typing.proofs.Standing.{Among, among}
 use Rattle.gb_typing.proofs.Scripts.{none_some, same_some, same_name}
-use Rattle.gb_typing.specs.Instances.{mexps_in, arguments_of, stands_for, put_in, put_in_reference, instance, name_of}
+use Rattle.gb_terms.specs.Rows.{mexps_in}
+use Rattle.gb_goal.specs.Instances.{arguments_of, stands_for, put_in, put_in_reference, instance, name_of}
 use Rattle.gb_typing.specs.Alike.{StandAlike, AreClosed, LooksAtCalls, applied_at}
 use Rattle.gb_typing.specs.Following.{FollowsCalls}
 use Rattle.gb_typing.proofs.Calls.{each_call}

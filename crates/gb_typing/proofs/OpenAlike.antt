@@ -11,7 +11,8 @@ use Rattle.gb_typing.specs.Modules.{ProcedureType, FunctorType, Interface, fits,
 use Rattle.gb_typing.specs.Modules as typed
 use Rattle.gb_typing.proofs.ExpressionsAlike.{AppliedIf, applied_fitting}
 use Rattle.gb_typing.proofs.Scripts.{none_some, same_some}
-use Rattle.gb_typing.specs.Instances.{mexps_in, arguments_of, given_more, put_in, put_in_all, put_in_reference}
+use Rattle.gb_terms.specs.Rows.{mexps_in}
+use Rattle.gb_goal.specs.Instances.{arguments_of, given_more, put_in, put_in_all, put_in_reference}
 use Rattle.gb_typing.specs.Alike.{Agree, IsAlike, AreAlike, StandAlike, applied_at}
 use mathlib.Core.Former.{Count}
 

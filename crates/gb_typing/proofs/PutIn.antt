@@ -5,7 +5,8 @@ use Rattle.gb_terms.specs.declared.module.Mexp.TheBlock as B
 use Rattle.gb_terms.specs.declared.module.Mexp.TheVariants.{Name as named, Apply, Apply'}
 use Rattle.gb_meaning.specs.Names.{Name}
 use Rattle.gb_typing.specs.Modules.{Modules, given, interface_at, interfaces_at}
-use Rattle.gb_typing.specs.Instances.{mexps_in, name_of, arguments_of, given_more, put_in, put_in_all}
+use Rattle.gb_terms.specs.Rows.{mexps_in}
+use Rattle.gb_goal.specs.Instances.{name_of, arguments_of, given_more, put_in, put_in_all}
 use Rattle.gb_typing.proofs.Served.{ServesIf, AllServe, given_serves, given_none, given_twice, ExtendsIf, serving, given_extends}
 use mathlib.Core.Former.{Count}
 

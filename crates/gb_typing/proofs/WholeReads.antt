@@ -20,7 +20,7 @@ use Rattle.gb_typing.proofs.Calls.{each_call}
 use Rattle.gb_typing.proofs.ExpressionsAlike.{procedure_alike}
 use Rattle.gb_typing.proofs.Interfaces.{same_name, same_some}
 use Rattle.gb_typing.proofs.Known.{modules_before, modules_here, typed_before, typed_here}
-use Rattle.gb_typing.proofs.Located.{Among, among, Standing, standing, declared_place, with_earlier, earlier_is}
+use Rattle.gb_typing.proofs.Standing.{Among, among, Standing, standing, declared_place, with_earlier, earlier_is}
 use Rattle.gb_typing.proofs.ReadingsAlike.{own_alike}
 use Rattle.gb_typing.proofs.ScopesAlike.{scope_closed, script_alike}
 

@@ -5,7 +5,7 @@ use Rattle.gb_terms.specs.declared.module.Mexp.{Mexp}
 use Rattle.gb_terms.specs.declared.module.ProcRef.{ProcRef}
 use Rattle.gb_meaning.specs.Names.{Name}
 use Rattle.gb_holds.specs.Modules.{Reading}
-use Rattle.gb_typing.specs.Instances.{put_in_reference, with_calls}
+use Rattle.gb_goal.specs.Instances.{put_in_reference, with_calls}
 
 -- a reading looks at what the procedures that are called mean, not at how they are named
 abbrev pub FollowsCalls : {X : Type 0} → Reading X → Type 0

@@ -23,5 +23,4 @@ pub mod Supports
 pub mod Samplings
 pub mod Alike
 pub mod Following
-pub mod Instances
 pub mod Suits

@@ -1,20 +1,12 @@
 -- The types of procedures and modules.
 use Rattle.std.specs.Prelude.{Bool, true, false, ◌&&◌, List, [], ◌∷◌, map, Option, Some, None, if◌then◌else◌, bytes_eq}
-use Rattle.gb_core.specs.declared.ty.Ty.{Ty}
-use Rattle.gb_terms.specs.declared.decl.TypedName.{TypedName}
-use Rattle.gb_terms.specs.declared.decl.Param.{Param}
 use Rattle.gb_terms.specs.declared.module.Mexp.{Mexp, Row_of-Mexp, end_of-Mexp, more_of-Mexp}
 use Rattle.gb_terms.specs.declared.module.Mexp.TheVariants.{Name as named, Apply'}
 use Rattle.gb_terms.specs.declared.module.ProcRef.{ProcRef}
 use Rattle.gb_meaning.specs.Names.{Name}
-use Rattle.gb_core.specs.SameTypes.{ty_eq}
-use Rattle.gb_holds.specs.Declared.{ModuleType, Signature}
+pub use Rattle.gb_goal.specs.Interfaces.{ProcedureType, signature_types, signatures_of, params_in, same_params, has_type, provides}
+use Rattle.gb_holds.specs.Declared.{ModuleType}
 use Rattle.gb_holds.specs.Modules.{Procedures, found}
-
--- the parameters of a procedure, and the type of its result
-pub record ProcedureType : Type 0 where
-  pub params : List TypedName
-  pub result : Ty
 
 -- A module type: the procedures of the modules that its parameters stand for, which lack none themselves, and its own procedures.
 pub record FunctorType : Type 0 where
@@ -31,19 +23,6 @@ pub record Modules : Type 0 where
   pub types : Name → Option ModuleType
   pub interfaces : Name → Option Interface
 
--- the types of the procedures that a module type asks for
-abbrev pub signature_types : List Signature → Procedures ProcedureType
-signature_types [] = []
-signature_types (s ∷ ss) = (s.name, record { params = s.params; result = s.result }) ∷ signature_types ss
-
-abbrev pub signatures_of : Option ModuleType → List Signature
-signatures_of None = []
-signatures_of (Some t) = t.signatures
-
-abbrev pub params_in : Option ModuleType → List Param
-params_in None = []
-params_in (Some t) = t.params
-
 -- a module type, where it is known what the names of module types stand for
 abbrev pub functor_type : (Name → Option ModuleType) → Option ModuleType → FunctorType
 functor_type types t = record { lacks = map (λ p. signature_types (signatures_of (types p.ty))) (params_in t); procedures = signature_types (signatures_of t) }
@@ -54,21 +33,6 @@ without_lacks ps = record { lacks = []; procedures = ps }
 -- a module of this type
 abbrev pub of_functor_type : FunctorType → Interface
 of_functor_type t = record { lacks = map without_lacks t.lacks; procedures = t.procedures }
-
--- whether the parameters have the same types; their names are of no account to a call
-abbrev pub same_params : List TypedName → List TypedName → Bool
-same_params [] [] = true
-same_params (x ∷ xs) (y ∷ ys) = ty_eq x.ty y.ty && same_params xs ys
-same_params _ _ = false
-
-abbrev pub has_type : Option ProcedureType → ProcedureType → Bool
-has_type None u = false
-has_type (Some t) u = same_params t.params u.params && ty_eq t.result u.result
-
--- whether a module with the first procedures has each of the second ones, at its types
-abbrev pub provides : Procedures ProcedureType → Procedures ProcedureType → Bool
-provides ps [] = true
-provides ps (q ∷ qs) = has_type (found ps q.0) q.1 && provides ps qs
 
 abbrev pub is_complete : List (Procedures ProcedureType) → Bool
 is_complete [] = true

@@ -7,6 +7,7 @@ use Rattle.gb_terms.specs.declared.decl.TypedName.{TypedName}
 use Rattle.gb_terms.specs.declared.term.Term.{Term}
 use Rattle.gb_terms.specs.declared.term.Instr.{Instr, Row_of-Instr, end_of-Instr, more_of-Instr}
 use Rattle.gb_terms.specs.declared.term.Head.TheVariants.{Assign, Sample, Call', If', While'}
+pub use Rattle.gb_goal.specs.Interfaces.{type_of_procedure}
 use Rattle.gb_meaning.specs.Commands.{terms_in}
 use Rattle.gb_meaning.specs.Operators.{outcome_type}
 use Rattle.gb_meaning.specs.Written.{type_of, IsModulo}
@@ -72,10 +73,6 @@ pub record IsBody (c : Context) (ls : List TypedName) (is : List Instr) : Type 0
 -- the locals of a procedure, its parameters among them
 abbrev pub locals_of : Proc → List TypedName
 locals_of p = p.params ++ p.locals
-
--- the type of a procedure
-abbrev pub type_of_procedure : Proc → ProcedureType
-type_of_procedure p = record { params = p.params; result = p.result }
 
 -- A procedure: a body over its locals, and an expression that it returns, of its result's type.
 pub record IsProcedure (c : Context) (p : Proc) : Type 0 where

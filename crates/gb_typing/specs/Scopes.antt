@@ -8,6 +8,7 @@ use Rattle.gb_terms.specs.declared.decl.TypedName.{TypedName}
 use Rattle.gb_terms.specs.declared.decl.Param.{Param}
 use Rattle.gb_terms.specs.declared.decl.Proc.{Proc}
 use Rattle.gb_terms.specs.declared.decl.Module.{Module}
+pub use Rattle.gb_goal.specs.Interfaces.{procedure_types}
 use Rattle.gb_meaning.specs.Names.{Name}
 use Rattle.gb_meaning.specs.Written.{type_of, local_type}
 use Rattle.gb_laws.specs.Plain.{IsPlain}
@@ -19,7 +20,7 @@ use Rattle.gb_holds.specs.Declared.{Declarations, Declaration, Abbreviated, for_
 use Rattle.gb_holds.specs.Modules.{Procedures, found}
 use Rattle.gb_holds.specs.Naming.{AnyName}
 use Rattle.gb_typing.specs.Naming.{NoName, TermNames}
-use Rattle.gb_typing.specs.Modules.{ProcedureType, Interface, Modules, params_in, functor_type, of_functor_type, with_interface}
+use Rattle.gb_typing.specs.Modules.{ProcedureType, Interface, Modules, params_in, functor_type, of_functor_type, procedure_of, with_interface}
 use Rattle.gb_typing.specs.Context.{Context, no_module}
 use Rattle.gb_typing.specs.Typing.{IsTyped}
 use Rattle.gb_typing.specs.Programs.{HaveVariableTypes, IsProcedure, type_of_procedure}
@@ -126,9 +127,6 @@ with_params ms (p ∷ ps) = with_interface (with_params ms ps) p.name (Some (of_
 abbrev pub interface_with : (Name → Option ModuleType) → List Param → Procedures ProcedureType → Interface
 interface_with types ps qs = record { lacks = map (λ p. functor_type types (types p.ty)) ps; procedures = qs }
 
-abbrev pub procedure_types : List Proc → Procedures ProcedureType
-procedure_types ps = map (λ p. (p.name, type_of_procedure p)) ps
-
 -- the globals, and those of a further module
 abbrev pub with_globals : (Name → Name → Option Ty) → Name → List TypedName → Name → Name → Option Ty
 with_globals f n ls m x = if bytes_eq m n then local_type ls x else f m x
@@ -194,10 +192,9 @@ with_each c (d ∷ ds) = with_each (with_declared c d.0 d.1) ds
 abbrev pub context_of : Declarations → Context
 context_of ds = with_each nothing ds
 
--- a module has this procedure
+-- a module that lacks nothing has this procedure
 abbrev pub HasProcedure : Option Interface → Name → Type 0
-HasProcedure None f = ⊥
-HasProcedure (Some i) f = IsKnown (found i.procedures f)
+HasProcedure o f = IsKnown (procedure_of o f)
 
 -- a name stands for a type of values, or for one of its values
 abbrev pub IsAbbreviation : Abbreviated → Type 0

@@ -13,7 +13,7 @@ ghost use Rattle.gb_typing.specs.Typing.{IsForm};
 ghost use Rattle.gb_typing.specs.Programs.{IsProcedure};
 ghost use Rattle.gb_typing.specs.Sequents.{IsTypedSequent};
 ghost use Rattle.gb_typing.specs.Formulas.{IsFormula};
-ghost use Rattle.gb_typing.specs.Instances.{instance, put_in, stands_for};
+ghost use Rattle.gb_goal.specs.Instances.{instance, put_in, stands_for};
 ghost use Rattle.gb_typing.specs.Scopes.{context_of, IsModule, IsTypedScope};
 ghost use Rattle.gb_typing.specs.Examples.{games, result_of_game, nothing_said_of_each, shadowing_name, shadowing, game_with_parameter, two_params, exchanged, one_of_other};
 

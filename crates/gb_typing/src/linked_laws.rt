@@ -22,7 +22,7 @@ ghost use Rattle.gb_typing.specs.Context.{Context, procedure};
 ghost use Rattle.gb_typing.specs.Modules.{ProcedureType, Interface};
 ghost use Rattle.gb_typing.specs.Scopes.{context_of, IsTypedScope};
 ghost use Rattle.gb_typing.specs.Sequents.{AreBinders, of_sequent};
-ghost use Rattle.gb_typing.specs.Instances.{arguments_of, instance, name_of};
+ghost use Rattle.gb_goal.specs.Instances.{arguments_of, instance, name_of};
 ghost use Rattle.gb_typing.specs.Alike.{AreClosed, LooksAtCalls};
 ghost use Rattle.gb_typing.specs.Following.{FollowsCalls};
 

@@ -1,5 +1,6 @@
 //! The concrete procedures of a script.
 
+ghost use Rattle.std.specs.Option.{option_map};
 ghost use Rattle.std.specs.Prelude.{◌≡◌, List, Some};
 ghost use Rattle.gb_goal.specs.declared.sequent.Sequent.{Sequent};
 ghost use Rattle.gb_goal.specs.Scope.{Declarations, module_of, proc_in, procedure_of};
@@ -14,6 +15,7 @@ ghost use Rattle.gb_holds.specs.Declared as holds;
 ghost use Rattle.gb_holds.specs.Declared.{declared};
 ghost use Rattle.gb_holds.specs.Modules.{Reading, procedure_at, modules_of};
 ghost use Rattle.gb_holds.specs.Modules as linked;
+ghost use Rattle.gb_holds.specs.Naming.{EachCallOf};
 ghost use Rattle.gb_holds.specs.Settings.{Interpretation, setting};
 ghost use Rattle.gb_typing.specs.Alike.{LooksAtCalls};
 ghost use Rattle.gb_typing.specs.Chosen.{AreUnchosen};
@@ -30,6 +32,15 @@ pub fn typed_procedures()
     ensures of_type { (ds : Declarations) → IsTypedScope (declared ds) → (q : Sequent) → AreBinders (context_of (declared ds)) q.modules →
         (fs : List (List TypedName)) (r : ProcRef) (p : Proc) → procedure_of ds r ≡ Some p →
         procedure (of_sequent (context_of (declared ds)) q fs) r ≡ Some (type_of_procedure p) }
+{}
+
+/// In the context of a typed scope a reference to a procedure has a type where it means a declared procedure, namely that procedure's, and
+/// nowhere else. So what a declared procedure calls is declared.
+pub fn known_procedures()
+    ensures types { (ds : Declarations) → IsTypedScope (declared ds) → (r : ProcRef) →
+        procedure (context_of (declared ds)) r ≡ option_map type_of_procedure (procedure_of ds r) }
+    ensures calls { (ds : Declarations) → IsTypedScope (declared ds) → (r : ProcRef) (p : Proc) → procedure_of ds r ≡ Some p →
+        EachCallOf (λ q. (f : Proc) × (procedure_of ds q ≡ Some f)) p.body.list }
 {}
 
 /// In a setting of a typed scope, where no chosen program hides a declared module, a concrete procedure is its body, in which each call

@@ -19,7 +19,7 @@ ghost use Rattle.gb_typing.specs.Modules.{ProcedureType, Interface, has_type, pr
 ghost use Rattle.gb_typing.specs.Programs.{IsProcedure, type_of_procedure};
 ghost use Rattle.gb_typing.specs.Scopes.{context_of, in_module, interface_with, procedure_types, IsTypedScope};
 ghost use Rattle.gb_typing.specs.Sequents.{AreBinders, of_sequent};
-ghost use Rattle.gb_typing.specs.Instances.{name_of, arguments_of, stands_for, put_in_reference, instance};
+ghost use Rattle.gb_goal.specs.Instances.{name_of, arguments_of, stands_for, put_in_reference, instance};
 ghost use Rattle.gb_typing.specs.Suits.{suits, lacked, Knows};
 
 /// A procedure that is typed inside of its module is typed outside, where modules that suit the parameters are given for them, in a

@@ -21,7 +21,7 @@ ghost use Rattle.gb_typing.specs.Scopes.{context_of, IsTypedScope};
 ghost use Rattle.gb_typing.specs.Sequents.{AreBinders, of_sequent};
 ghost use Rattle.gb_typing.specs.Alike.{LooksAtCalls};
 ghost use Rattle.gb_typing.specs.Following.{FollowsCalls};
-ghost use Rattle.gb_typing.specs.Instances.{arguments_of, instance, name_of};
+ghost use Rattle.gb_goal.specs.Instances.{arguments_of, instance, name_of};
 
 /// In the scope of a script, a procedure of a declared module with arguments that fit is what its instance is, read in the modules of the
 /// whole scope.

@@ -84,6 +84,7 @@ fn procedure_at<'a>(
         return Err(no_procedure(alloc, found, &word.text, word.place));
     };
     let name = ended(alloc, scope, module, &word.text, place)?;
+    let procedure = procedure.get();
     Ok(Found { name, procedure })
 }
 

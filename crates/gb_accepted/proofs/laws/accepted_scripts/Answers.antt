@@ -1,4 +1,4 @@
-use Rattle.gb_accepted.proofs.Accepted.{all_promised, scope_ended, scope_footprints, scope_named}
+use Rattle.gb_accepted.proofs.Accepted.{all_promised, scope_calls, scope_ended, scope_footprints}
 use Rattle.gb_accepted.proofs.Grounds.{Grounds}
 use Rattle.gb_accepted.proofs.laws.accepted_scripts.Goals as goal
 
@@ -9,8 +9,6 @@ returns c =
         entries_added = c.entries.ensures.added;
         others = c.entries.ensures.others;
         entries_speak = c.entries.ensures.speaks;
-        entries_call = c.entries.ensures.calls;
-        module_calls = c.modules.ensures.calls;
         module_speaks = c.modules.ensures.speaks;
         procedures = c.statements.ensures.procedures;
         module_added = c.modules.ensures.added;
@@ -80,7 +78,7 @@ returns c =
     } in
     record {
       promised = all_promised o;
-      named = scope_named o;
+      calls = scope_calls o c.declared_calls.ensures;
       ended = scope_ended o c.ended_modules.ensures;
       footprints = scope_footprints o c.footprints.ensures;
     }

@@ -1,5 +1,5 @@
 -- Each head's answer, by the lemma of that head.
-use Rattle.std.proofs.Common.{rules, ◌≡◌, [], ◌∷◌, ◌++◌, ◌+◌, ◌-◌, drop, length, slice_get, ap, sym, ◌∙◌, arith}
+use Rattle.std.proofs.Common.{rules, ◌≡◌, [], ◌∷◌, ◌++◌, ◌+◌, ◌-◌, drop, length, ap, sym, ◌∙◌, arith}
 use Rattle.std.proofs.lemmas.List.{drop_all}
 use Rattle.std.specs.Option.{option_copied}
 use Rattle.gb_core.specs.declared.refusal.Why.TheVariants.{Syntax, TypeMismatch}
@@ -8,19 +8,19 @@ use Rattle.gb_script.specs.declared.tree.Node.{size-Node}
 use Rattle.gb_goal.specs.Answers.{◌>>=◌}
 use Rattle.gb_goal.specs.Answers.Answer.{given}
 use Rattle.gb_names.specs.Environment.{environment}
-use Rattle.gb_names.specs.Judgments.{Named}
+use Rattle.gb_names.specs.Judgments.{Named, named_seen}
 use Rattle.gb_names.specs.Names.{path, unit}
 use Rattle.gb_names.specs.Wanted.{wanted}
 use Rattle.gb_names.proofs.Answers.{answers_as, fails_as, refuses_as}
-use Rattle.gb_names.proofs.Parts.{four, left, three, two}
+use Rattle.gb_names.proofs.Parts.{four, left, rest_is, rest_most, three, two}
 use Rattle.gb_operators.specs.Rules.{made}
 use Rattle.gb_elab.specs.Forms.{applied, bounded, contract, contracting, equivalence, from_right, function_typing, operation, typing, with_meanings, listed, probability}
 use Rattle.gb_elab.specs.Globs.{whole_alone}
 use Rattle.gb_elab.proofs.Arms.{name_is, compared_is, glob_is, path_is, number_is, unit_is, bracketed_is, sided_is, coin_is, function_is, typed_is, tuple_is, component_is, branches_is, get_is, set_is, product_is, uniform_is, weights_is, apply_is, equalities_is, quantified_is, equiv_is, equivalence_is, hoare_is, phoare_is, bounded_is, bounded_is_by, lossless_is, contract_is, other_contract, other_form, probability_is}
 use Rattle.gb_elab.proofs.Functions as functions
-use Rattle.gb_elab.proofs.Called.{call_is, list_is, no_list, other_call, probability_is_by}
+use Rattle.gb_elab.proofs.Called.{call_is, functor_call_is, last_is, list_is, no_last, other_call, probability_is_by}
 use Rattle.gb_elab.proofs.Elaborated.{arguments_of_is, contract_of_is, elaborated_is, function_of_is}
-use Rattle.gb_elab.proofs.Applied.{by_name, by_path, rest_is, rest_most}
+use Rattle.gb_elab.proofs.Applied.{by_name, by_path}
 use Rattle.gb_elab.proofs.Operands.{at_end, behind, next_of, of_one, of_two, refuses}
 use Rattle.gb_elab.proofs.form.+form.Goals as goal
 
@@ -246,7 +246,7 @@ equivalence-returns-in_ok-pre-in-len4 t c =
     let at = environment c.args.at.now in
     let w = option_copied c.args.want in
     let both = c.in_ok-both-in-len4.both in
-    let m : Named × Named = ((both.left.reference, both.left.procedure.now), (both.right.reference, both.right.procedure.now)) in
+    let m : Named × Named = (named_seen both.left, named_seen both.right) in
     let e = four c.args.parts.now c.f-item.result c.g-item.result c.pre-item.result c.post-item.result c.in-len4.len_at_least c.in-len4.len_below c.f-item.is c.g-item.is c.pre-item.is c.post-item.is in
     answers_as _ _ c.with_postcondition.result
     (ap (λ ps. equivalence (with_meanings ps) c.args.place at c.args.bound.now w) e
@@ -289,7 +289,7 @@ contract-returns-in_ok-pre-in-len3 t c =
     let e = three c.args.parts.now c.f-item.result c.pre-item.result c.post-item.result c.in-len3.len_at_least c.in-len3.len_below c.f-item.is c.pre-item.is c.post-item.is in
     answers_as _ _ c.with_result.result
     (ap (λ ps. contract (with_meanings ps) c.args.place at c.args.bound.now) e
-    ∙ contract_is c.f-item.result c.pre-item.result c.post-item.result c.args.place at c.args.bound.now (named.reference, named.procedure.now) c.in_ok-pre-in-len3.pre
+    ∙ contract_is c.f-item.result c.pre-item.result c.post-item.result c.args.place at c.args.bound.now (named_seen named) c.in_ok-pre-in-len3.pre
     c.in_ok-named-in-len3.ensures c.in_ok-pre-in-len3.ensures)
     c.with_result.ensures
 
@@ -301,7 +301,7 @@ probability-returns-in_ok-arguments-in-len3 t c =
     let e = three c.args.parts.now c.call-item.result c.memory-item.result c.event-item.result c.in-len3.len_at_least c.in-len3.len_below c.call-item.is c.memory-item.is c.event-item.is in
     answers_as _ _ c.from_memory.result
     (ap (λ ps. probability (with_meanings ps) c.args.place at c.args.bound.now w) e
-    ∙ probability_is_by c.call-item.result c.memory-item.result c.event-item.result c.args.place at c.args.bound.now w c.in_ok-chance_here-in-len3.field-0 (named.reference, named.procedure.now)
+    ∙ probability_is_by c.call-item.result c.memory-item.result c.event-item.result c.args.place at c.args.bound.now w c.in_ok-chance_here-in-len3.field-0 (named_seen named)
     c.in_ok-arguments-in-len3.arguments c.in_ok-chance_here-in-len3.ensures c.in_ok-named-in-len3.ensures c.in_ok-arguments-in-len3.ensures)
     c.from_memory.ensures
 
@@ -313,30 +313,38 @@ arguments_of-returns-in-List t c =
     ∙ ap (λ ps. listed c.args.place at c.args.bound.now c.args.params.now (with_meanings ps)) (sym c.as_slice-in-List.ensures))
     c.listed.ensures
 
-pub arguments_of-returns-in-Some : goal.arguments_of-returns-in-Some
-arguments_of-returns-in-Some t c =
-    let there =
-    sym (ap (λ ps. slice_get ps (length ps - 1)) c.as_slice.ensures) ∙ (sym c.last.ensures.value ∙ ap option_copied c.in-Some.is) in
+pub arguments_of-returns-in-Call : goal.arguments_of-returns-in-Call
+arguments_of-returns-in-Call t c =
+    answers_as _ _ c.in_last.result
+    (call_is c.args.t.now c.args.params.now c.args.place (environment c.args.at.now) c.args.bound.now c.as_slice.result.now c.in-Call.is c.as_slice.ensures)
+    c.in_last.ensures
+
+pub arguments_of-returns-in-FunctorCall : goal.arguments_of-returns-in-FunctorCall
+arguments_of-returns-in-FunctorCall t c =
+    answers_as _ _ c.in_last-in-FunctorCall.result
+    (functor_call_is c.args.t.now c.args.params.now c.args.place (environment c.args.at.now) c.args.bound.now c.as_slice-in-FunctorCall.result.now c.in-FunctorCall.is c.as_slice-in-FunctorCall.ensures)
+    c.in_last-in-FunctorCall.ensures
+
+pub in_last-returns-in-Some : goal.in_last-returns-in-Some
+in_last-returns-in-Some t c =
     answers_as _ _ c.arguments_of.result
-    (call_is c.args.t.now c.args.params.now c.args.place (environment c.args.at.now) c.args.bound.now c.in-Some.list.now c.in-Call.is there)
+    (last_is c.args.parts.now c.args.params.now c.args.place (environment c.args.at.now) c.args.bound.now c.in-Some.list.now (sym c.last.ensures.value ∙ ap option_copied c.in-Some.is))
     c.arguments_of.ensures
 
-pub arguments_of-returns-in-None : goal.arguments_of-returns-in-None
-arguments_of-returns-in-None t c =
-    let there =
-    sym (ap (λ ps. slice_get ps (length ps - 1)) c.as_slice.ensures) ∙ (sym c.last.ensures.value ∙ ap option_copied c.in-None.is) in
+pub in_last-returns-in-None : goal.in_last-returns-in-None
+in_last-returns-in-None t c =
     refuses_as _ c.not_built.result Syntax c.args.place
-    (no_list c.args.t.now c.args.params.now c.args.place (environment c.args.at.now) c.args.bound.now c.in-Call.is there)
+    (no_last c.args.parts.now c.args.params.now c.args.place (environment c.args.at.now) c.args.bound.now (sym c.last.ensures.value ∙ ap option_copied c.in-None.is))
     c.not_built.ensures
 
 pub arguments_of-returns-in_default : goal.arguments_of-returns-in_default
 arguments_of-returns-in_default t c =
     let at = environment c.args.at.now in
     let n = c.in_default in
-    refuses_as _ c.not_built-in_default.result Syntax c.args.place
+    refuses_as _ c.not_built.result Syntax c.args.place
     (arguments_of_is c.args.t.now c.args.params.now c.args.place at c.args.bound.now
-    ∙ other_call (head_of c.args.t.now) (with_meanings (parts_of c.args.t.now)) c.args.params.now c.args.place at c.args.bound.now n.not-Call n.not-List)
-    c.not_built-in_default.ensures
+    ∙ other_call (head_of c.args.t.now) (with_meanings (parts_of c.args.t.now)) c.args.params.now c.args.place at c.args.bound.now n.not-Call n.not-FunctorCall n.not-List)
+    c.not_built.ensures
 
 pub function_of-returns : goal.function_of-returns
 function_of-returns t c =

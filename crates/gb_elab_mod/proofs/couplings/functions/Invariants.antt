@@ -2,7 +2,7 @@ use Rattle.std.proofs.Common.{◌≡◌, ◌∷◌, drop}
 use Rattle.gb_goal.specs.Answers.{◌>>=◌}
 use Rattle.gb_goal.specs.Answers.Answer.{given}
 use Rattle.gb_names.specs.Environment.{environment}
-use Rattle.gb_elab_mod.specs.Steps.{functions}
+use Rattle.gb_elab_mod.specs.OnPrograms.{functions}
 use Rattle.gb_elab_stmt.proofs.Gathered.{behind}
 use Rattle.gb_elab_mod.proofs.couplings.functions.Given as goal
 

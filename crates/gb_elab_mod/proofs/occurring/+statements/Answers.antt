@@ -1,6 +1,6 @@
-use Rattle.std.proofs.Common.{flat_map, rules, ap, ◌∙◌}
+use Rattle.std.proofs.Common.{None, flat_map, rules, ap, ◌∙◌}
 use Rattle.gb_terms.specs.declared.op.Side.TheVariants as side
-use Rattle.gb_goal.specs.Scope.{procedure_of}
+use Rattle.gb_goal.specs.Interfaces.{procedure_type}
 use Rattle.gb_elab_mod.specs.Occurring.{read_locals, returned, statement_locals, with_all}
 use Rattle.gb_elab_mod.proofs.Found.{call_locals, if_locals, while_locals, with_append, with_more, with_three}
 use Rattle.gb_elab_mod.proofs.occurring.+statements.Goals as goal
@@ -10,7 +10,7 @@ in_statement-returns-in_ok-in_result-in-Call t c =
     let x = c.in-Call in
     let e =
     ap (with_all c.args.found.now) (ap (statement_locals c.args.scope.now) x.is ∙ call_locals c.args.scope.now x.vars x.called x.args)
-    ∙ with_append c.args.found.now (returned x.vars (procedure_of c.args.scope.now x.called)) (flat_map (λ u. read_locals u side.Own) x.args) in
+    ∙ with_append c.args.found.now (returned x.vars (procedure_type c.args.scope.now None x.called)) (flat_map (λ u. read_locals u side.Own) x.args) in
     search (rules, e)
 
 pub in_statement-returns-in_ok-in_body-in-If : goal.in_statement-returns-in_ok-in_body-in-If

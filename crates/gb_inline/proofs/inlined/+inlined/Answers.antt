@@ -1,5 +1,4 @@
 use Rattle.std.proofs.Common.{◌≡◌, IfOk, Some, None, ap, sym, subst, ◌∙◌}
-use Rattle.std.specs.Option.{option_copied}
 use Rattle.gb_inline.specs.Asking.{expansion}
 use Rattle.gb_inline.specs.Expanded.{expanded}
 use Rattle.gb_inline.specs.Inlined.{asked, each_inlined, statement_inlined}
@@ -19,8 +18,8 @@ statement_inlined-returns-in_ok-found-in-Call t c =
     let asks = c.args.asks.now in
     let used = c.args.used.now in
     let made = c.expanded in
-    let f : option_copied c.in_ok-found-in-Call.found ≡ asked asks.scope.now asks.calls.now x.procedure = c.in_ok-found-in-Call.ensures ∙ ap (asked asks.scope.now asks.calls.now) c.get.ensures in
-    let e : expanded used (option_copied c.in_ok-found-in-Call.found) x.targets c.as_slice.result.now ≡ statement_inlined (expansion asks used) c.args.statement.now =
+    let f : c.in_ok-found-in-Call.found ≡ asked asks.scope.now asks.calls.now x.procedure = c.in_ok-found-in-Call.ensures ∙ ap (asked asks.scope.now asks.calls.now) c.get.ensures in
+    let e : expanded used c.in_ok-found-in-Call.found x.targets c.as_slice.result.now ≡ statement_inlined (expansion asks used) c.args.statement.now =
     (λ i. expanded used (f i) x.targets (c.as_slice.ensures i)) ∙ sym (ap (statement_inlined (expansion asks used)) x.is ∙ inlined_call (expansion asks used) x.targets x.procedure x.args) in
     subst (λ o. IfOk made.result (λ m. m ≡ o)) e made.ensures
 

@@ -7,7 +7,7 @@ pub returns : goal.returns
 returns c =
     let l = c.loop-level in
     let n : 2 ^ 32 - l.level ≡ 0 = omega (arith, c.loop-level-test.false) in
-    let e = reached_over (2 ^ 32 - l.level) c.args.scope.now l.followed l.all n in
+    let e = reached_over (2 ^ 32 - l.level) (called c.args.scope.now) l.followed l.all n in
     search (rules, e, l.invariant)
 
 pub loop-level-preserved : goal.loop-level-preserved
@@ -24,9 +24,9 @@ loop-level-preserved c =
     let a : c.in_ok-all.all ≡ added l.all more =
     c.in_ok-all.ensures ∙ ap (added l.all) (found ∙ rest ∙ ap (λ ps. called ds (take (length ps - l.followed) (drop l.followed ps))) list ∙ ap (called ds) (rest_of l.all l.followed)) in
     let longer = added_longer l.all more in
-    let e = reached_next (2 ^ 32 - l.level) ds l.followed l.all h (λ q. c.if-followed-count.false (q ∙ sym n)) in
+    let e = reached_next (2 ^ 32 - l.level) (called ds) l.followed l.all h (λ q. c.if-followed-count.false (q ∙ sym n)) in
     record {
       within = omega (arith, n, ap length a, longer);
-      goes_on = ap (λ k. reached k ds c.len-count.result c.in_ok-all.all) (sym m) ∙ ap (λ k. reached ((2 ^ 32 - l.level) - 1) ds k c.in_ok-all.all) n
-          ∙ ap (λ ps. reached ((2 ^ 32 - l.level) - 1) ds (length l.all) ps) a ∙ sym e ∙ l.invariant.goes_on;
+      goes_on = ap (λ k. reached k (called ds) c.len-count.result c.in_ok-all.all) (sym m) ∙ ap (λ k. reached ((2 ^ 32 - l.level) - 1) (called ds) k c.in_ok-all.all) n
+          ∙ ap (λ ps. reached ((2 ^ 32 - l.level) - 1) (called ds) (length l.all) ps) a ∙ sym e ∙ l.invariant.goes_on;
     }

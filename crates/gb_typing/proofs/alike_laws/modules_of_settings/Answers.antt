@@ -1,5 +1,5 @@
 use Rattle.gb_typing.proofs.ClosedSettings.{touched_is}
-use Rattle.gb_typing.proofs.LinkedProcedures.{linked_is}
+use Rattle.gb_typing.proofs.KeptPrograms.{linked_is}
 use Rattle.gb_typing.proofs.alike_laws.modules_of_settings.Goals as goal
 
 pub returns : goal.returns

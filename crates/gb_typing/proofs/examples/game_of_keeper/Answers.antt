@@ -5,7 +5,7 @@ use Rattle.gb_holds.specs.Examples.{game, game_name, game_with_keeper, keeper, k
 use Rattle.gb_typing.specs.Examples.{games, result_of_game}
 use Rattle.gb_typing.specs.Scopes.{nothing, context_of}
 use Rattle.gb_typing.proofs.Scripts.{none_some, same_some}
-use Rattle.gb_typing.specs.Instances.{instance}
+use Rattle.gb_goal.specs.Instances.{instance}
 use Rattle.gb_typing.proofs.Declaring.{knows_nothing}
 use Rattle.gb_typing.proofs.Growing.{placed}
 use Rattle.gb_typing.proofs.InScopes.{instance_here}

@@ -1,7 +1,7 @@
 use Rattle.std.proofs.Common.{refl}
 use Rattle.gb_typing.specs.Scopes.{context_of}
 use Rattle.gb_typing.specs.Sequents.{of_sequent}
-use Rattle.gb_typing.specs.Instances.{name_of}
+use Rattle.gb_goal.specs.Instances.{name_of}
 use Rattle.gb_typing.proofs.InScopes.{placed_in_goal, instance_here, type_here}
 use Rattle.gb_typing.proofs.typed_laws.instances_in_goals.Goals as goal
 

@@ -3,7 +3,7 @@ use Rattle.gb_holds.specs.Declared.{declared}
 use Rattle.gb_holds.specs.Modules.{modules_of}
 use Rattle.gb_holds.proofs.Lists.{declared-module}
 use Rattle.gb_typing.specs.Scopes.{nothing, context_of}
-use Rattle.gb_typing.specs.Instances.{name_of}
+use Rattle.gb_goal.specs.Instances.{name_of}
 use Rattle.gb_typing.proofs.LinkedInstances.{instance_read}
 use Rattle.gb_typing.proofs.ScopesAlike.{scope_closed, script_alike}
 use Rattle.gb_typing.proofs.whole_laws.instances_in_scripts.Goals as goal

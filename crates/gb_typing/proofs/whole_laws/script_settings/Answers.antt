@@ -3,7 +3,7 @@ use Rattle.gb_holds.specs.Declared.{declared}
 use Rattle.gb_holds.specs.Settings.{types_of, bare, with_operators}
 use Rattle.gb_holds.proofs.Lists.{declared-module}
 use Rattle.gb_typing.specs.Scopes.{context_of}
-use Rattle.gb_typing.specs.Instances.{name_of}
+use Rattle.gb_goal.specs.Instances.{name_of}
 use Rattle.gb_typing.proofs.ChosenInstances.{instance_runs}
 use Rattle.gb_typing.proofs.ClosedSettings.{script_closed}
 use Rattle.gb_typing.proofs.whole_laws.script_settings.Goals as goal

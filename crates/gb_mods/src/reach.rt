@@ -1,0 +1,259 @@
+//! What procedures of module expressions call, inside of a module that is typed so far or outside.
+
+ghost use Rattle.std.specs.Prelude.{◌≡◌, ◌++◌, IfOk};
+ghost use Rattle.std.specs.Option.{option_copied};
+ghost use Rattle.gb_mods.specs.Reach.{all_from, all_oracles, asked_by, asked_for, asked_of, called_at, called_from, called_from_all, called_inside, calls_of, given_for, oracles_if, oracles_in, signature_of};
+
+use crate::called::{Procedures, added, calls};
+use gb_core::Shared;
+use gb_core::name::Name;
+use gb_core::same::same_name;
+use gb_goal::instance::{arguments_of, name_of, put_in_reference, stands_for};
+use gb_goal::interface::signatures_of;
+use gb_goal::module_type::{MayCall, ModuleType, Oracle, Signature};
+use gb_goal::scope::{Scope, procedure_named};
+use gb_terms::decl::{Module, Param};
+use gb_terms::module::{Mexp, ProcRef};
+use sqlite_items::Items;
+use std::alloc::{AllocError, Global};
+
+/// Procedures behind others, as a module with these parameters names them, where these modules are given for them.
+fn given_for(
+    alloc: Global,
+    found: Procedures,
+    params: &[Param],
+    args: &[Mexp],
+    list: &[Shared<ProcRef>],
+) -> Result<Procedures, AllocError>
+    ensures { IfOk result (λ made. made ≡ found ++ given_for params.now args.now list.now) }
+{
+    let mut all = found;
+    for x in list {
+        all.push(put_in_reference(alloc, params, args, x.get())?)?;
+    }
+    Ok(all)
+}
+
+/// Procedures behind others: what a procedure of a module calls itself, where these modules are given for the module's parameters.
+fn calls_of(
+    alloc: Global,
+    found: Procedures,
+    module: Option<&Module>,
+    args: &[Mexp],
+    name: &Name,
+) -> Result<Procedures, AllocError>
+    ensures { IfOk result (λ made. made ≡ found ++ calls_of (option_copied «module».entry) args.now name.now) }
+{
+    let Some(module) = module else {
+        return Ok(found);
+    };
+    let Some(f) = procedure_named(module.procs.as_slice(), name) else {
+        return Ok(found);
+    };
+    let own = calls(alloc, Items::new(alloc), f.get().body.list.as_slice())?;
+    given_for(alloc, found, module.params.as_slice(), args, own.as_slice())
+}
+
+/// A procedure of this name, of the module that is given for the parameter of this name.
+fn asked(
+    alloc: Global,
+    params: &[Param],
+    args: &[Mexp],
+    parameter: &Name,
+    name: &Name,
+) -> Result<Shared<ProcRef>, AllocError>
+    ensures { IfOk result (λ made. made ≡ asked_of params.now args.now (record { parameter = parameter.now; name = name.now })) }
+{
+    let module = stands_for(alloc, params, args, parameter)?;
+    let name = name.copy(alloc)?;
+    Shared::new(alloc, ProcRef { module, name })
+}
+
+/// Procedures behind others: these of the module that is given for the parameter of this name.
+fn all_asked(
+    alloc: Global,
+    found: Procedures,
+    params: &[Param],
+    args: &[Mexp],
+    parameter: &Name,
+    signatures: &[Signature],
+) -> Result<Procedures, AllocError>
+    ensures { IfOk result (λ made. made ≡ found ++ asked_for params.now args.now (oracles_in parameter.now signatures.now)) }
+{
+    let mut all = found;
+    for s in signatures {
+        all.push(asked(alloc, params, args, parameter, &s.name)?)?;
+    }
+    Ok(all)
+}
+
+/// Procedures behind others: all those of the modules that are given for parameters.
+fn every(
+    alloc: Global,
+    scope: &Scope,
+    found: Procedures,
+    params: &[Param],
+    args: &[Mexp],
+) -> Result<Procedures, AllocError>
+    ensures { IfOk result (λ made. made ≡ found ++ asked_for params.now args.now (all_oracles scope.now params.now)) }
+{
+    let mut all = found;
+    for q in params {
+        let signatures = signatures_of(scope.module_type(&q.ty));
+        all = all_asked(alloc, all, params, args, &q.name, signatures)?;
+    }
+    Ok(all)
+}
+
+/// Procedures behind others: these, of the modules that are given for parameters.
+fn those(
+    alloc: Global,
+    found: Procedures,
+    params: &[Param],
+    args: &[Mexp],
+    oracles: &[Oracle],
+) -> Result<Procedures, AllocError>
+    ensures { IfOk result (λ made. made ≡ found ++ asked_for params.now args.now oracles.now) }
+{
+    let mut all = found;
+    for o in oracles {
+        all.push(asked(alloc, params, args, &o.parameter, &o.name)?)?;
+    }
+    Ok(all)
+}
+
+/// The signature of this name.
+pub fn signature_named<'a>(signatures: &'a [Signature], name: &Name) -> Option<&'a Signature>
+    ensures { option_copied result ≡ signature_of signatures.now name.now }
+{
+    for s in signatures {
+        if same_name(&s.name, name) {
+            return Some(s);
+        }
+    }
+    None
+}
+
+/// Procedures behind others: those that a procedure of this signature calls, of the modules that are given for parameters.
+fn asked_if(
+    alloc: Global,
+    scope: &Scope,
+    found: Procedures,
+    params: &[Param],
+    args: &[Mexp],
+    signature: Option<&Signature>,
+) -> Result<Procedures, AllocError>
+    ensures { IfOk result (λ made. made ≡ found ++ asked_for params.now args.now (oracles_if scope.now params.now (option_copied signature.entry))) }
+{
+    let Some(signature) = signature else {
+        return Ok(found);
+    };
+    match &signature.oracles {
+        MayCall::Every => every(alloc, scope, found, params, args),
+        MayCall::Those(oracles) => those(alloc, found, params, args, oracles.as_slice()),
+    }
+}
+
+/// Procedures behind others: what a procedure of any module of a module type calls, where these modules are given for the type's
+/// parameters.
+fn asked_by(
+    alloc: Global,
+    scope: &Scope,
+    found: Procedures,
+    ty: Option<&ModuleType>,
+    args: &[Mexp],
+    name: &Name,
+) -> Result<Procedures, AllocError>
+    ensures { IfOk result (λ made. made ≡ found ++ asked_by scope.now (option_copied ty.entry) args.now name.now) }
+{
+    let Some(ty) = ty else {
+        return Ok(found);
+    };
+    let signature = signature_named(ty.signatures.as_slice(), name);
+    asked_if(alloc, scope, found, ty.params.as_slice(), args, signature)
+}
+
+/// The same inside of a module, of the module of a name with these arguments.
+fn called_inside(
+    alloc: Global,
+    scope: &Scope,
+    found: Procedures,
+    around: &Module,
+    module: &Name,
+    args: &[Mexp],
+    name: &Name,
+) -> Result<Procedures, AllocError>
+    ensures { IfOk result (λ made. made ≡ found ++ called_inside scope.now around.now around.now.params «module».now args.now name.now) }
+{
+    for q in around.params.as_slice() {
+        if same_name(module, &q.name) {
+            return asked_by(alloc, scope, found, scope.module_type(&q.ty), args, name);
+        }
+    }
+    let meant = if same_name(module, &around.name) {
+        Some(around)
+    } else {
+        scope.module(module)
+    };
+    calls_of(alloc, found, meant, args, name)
+}
+
+/// The same inside of a module or outside.
+fn called_at(
+    alloc: Global,
+    scope: &Scope,
+    found: Procedures,
+    around: Option<&Module>,
+    module: &Name,
+    args: &[Mexp],
+    name: &Name,
+) -> Result<Procedures, AllocError>
+    ensures { IfOk result (λ made. made ≡ found ++ called_at scope.now (option_copied around.entry) «module».now args.now name.now) }
+{
+    match around {
+        None => calls_of(alloc, found, scope.module(module), args, name),
+        Some(around) => called_inside(alloc, scope, found, around, module, args, name),
+    }
+}
+
+/// The procedures that procedures call themselves.
+fn called_from(
+    alloc: Global,
+    scope: &Scope,
+    around: Option<&Module>,
+    list: &[Shared<ProcRef>],
+) -> Result<Procedures, AllocError>
+    ensures { IfOk result (λ made. made ≡ called_from_all scope.now (option_copied around.entry) list.now) }
+{
+    let mut all = Items::new(alloc);
+    for x in list {
+        let (module, args) = (name_of(&x.get().module), arguments_of(&x.get().module));
+        all = called_at(alloc, scope, all, around, module, args, &x.get().name)?;
+    }
+    Ok(all)
+}
+
+/// Procedures, and behind them all that they call, through every procedure. Procedures of parameters of the module around call the
+/// oracles that their signatures name. None where these are too many to follow, which no script has.
+#[tactic(auto, using(crate::proofs::CalledSteps::added_longer, crate::proofs::CalledSteps::reached_end, crate::proofs::CalledSteps::reached_next))]
+pub fn all_from(
+    alloc: Global,
+    scope: &Scope,
+    around: Option<&Module>,
+    first: Procedures,
+) -> Result<Option<Procedures>, AllocError>
+    ensures { IfOk result (λ made. made ≡ all_from scope.now (option_copied around.entry) first) }
+{
+    let mut all = first;
+    let mut followed = 0usize;
+    for level in 0..0x1_0000_0000usize {
+        let count = all.len();
+        if followed == count {
+            return Ok(Some(all));
+        }
+        let called = called_from(alloc, scope, around, &all.as_slice()[followed..])?;
+        all = added(all, called.as_slice())?;
+        followed = count;
+    }
+    Ok(None)
+}
