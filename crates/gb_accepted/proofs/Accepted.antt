@@ -8,7 +8,7 @@ use Rattle.gb_holds.specs.Holds.{Holds, IsSound}
 use Rattle.gb_typing.specs.Sequents.{IsTypedSequent}
 use Rattle.gb_typing.specs.Scopes.{context_of}
 use Rattle.gb_typing.specs.Naming.{NoName}
-use Rattle.gb_models.specs.Speaking.{ScopeSpeaks}
+use Rattle.gb_models.specs.Speaking.{IsFirmScope, ScopeSpeaks}
 use Rattle.gb_mods_laws.specs.Members.{CallsAreDeclared}
 use Rattle.gb_theory.specs.Built.{Session}
 use Rattle.gb_theory.specs.Outcome.{IsOutcome}
@@ -22,8 +22,8 @@ module _ (o : Grounds) where
   promised : (l : Lemma) → IsProved l → IsPromise l
   promised l p = record {
     model = o.models.model l.before p.scope;
-    coupled = λ xs ms f h P Q e.
-        o.models.coupled l.before p.scope xs ms f h P Q (subst (IsTypedSequent (context_of (declared l.before))) e p.typed) (subst (Holds (declared l.before)) e p.holds);
+    coupled = λ xs ms bs f h P Q e.
+        o.models.coupled l.before p.scope xs ms bs f h P Q (subst (IsTypedSequent (context_of (declared l.before))) e p.typed) (subst (Holds (declared l.before)) e p.holds);
   }
 
   each_promised : (ls : List Lemma) → AllByRecursion IsProved ls → AllByRecursion IsPromise ls
@@ -31,15 +31,15 @@ module _ (o : Grounds) where
   each_promised (l ∷ ls) h = (promised l h.0, each_promised ls h.1)
 
   -- what is known of the calls in typed scopes, of ended modules and of footprints is known of the scope of an accepted script
-  pub scope_calls : ((ds : Declarations) → IsTyped ds → CallsAreDeclared ds) → (text : List ℕ) (s : Session) → IsOutcome text (given s) → CallsAreDeclared s.scope
-  scope_calls law text s outcome = let g = outcome_is_good o text s outcome in law s.scope g.typed
+  pub scope_calls : ((ds : Declarations) → IsTyped ds → IsFirmScope ds → CallsAreDeclared ds) → (text : List ℕ) (s : Session) → IsOutcome text (given s) → CallsAreDeclared s.scope
+  scope_calls law text s outcome = let g = outcome_is_good o text s outcome in law s.scope g.typed g.firm
 
-  pub scope_ended : ((ds : Declarations) → IsTyped ds → IsSound (declared ds) → ScopeSpeaks NoName (declared ds) → EndedLoopsAreGood ds) →
+  pub scope_ended : ((ds : Declarations) → IsTyped ds → IsFirmScope ds → IsSound (declared ds) → ScopeSpeaks NoName (declared ds) → EndedLoopsAreGood ds) →
       (text : List ℕ) (s : Session) → IsOutcome text (given s) → EndedLoopsAreGood s.scope
-  scope_ended law text s outcome = let g = outcome_is_good o text s outcome in law s.scope g.typed g.sound g.speaks
+  scope_ended law text s outcome = let g = outcome_is_good o text s outcome in law s.scope g.typed g.firm g.sound g.speaks
 
-  pub scope_footprints : ((ds : Declarations) → IsTyped ds → FootprintsAreMeant ds) → (text : List ℕ) (s : Session) → IsOutcome text (given s) → FootprintsAreMeant s.scope
-  scope_footprints law text s outcome = let g = outcome_is_good o text s outcome in law s.scope g.typed
+  pub scope_footprints : ((ds : Declarations) → IsTyped ds → IsFirmScope ds → FootprintsAreMeant ds) → (text : List ℕ) (s : Session) → IsOutcome text (given s) → FootprintsAreMeant s.scope
+  scope_footprints law text s outcome = let g = outcome_is_good o text s outcome in law s.scope g.typed g.firm
 
   -- an accepted script keeps what is promised
   pub all_promised : (text : List ℕ) (s : Session) → IsOutcome text (given s) → IsPromised s

@@ -23,31 +23,41 @@ use Rattle.gb_elab_laws.proofs.Scopes.{typed_after}
 use Rattle.gb_smt_laws.proofs.Split.{each_left}
 use Rattle.gb_smt_laws.proofs.Used.{each_together}
 use Rattle.gb_mods_laws.proofs.Shown.{each_shown}
-use Rattle.gb_theory.specs.Built.{Session, with_ended, with_proved}
+use Rattle.gb_models.specs.Speaking.{IsFirmScope}
+use Rattle.gb_theory.specs.Built.{Session, seen_in, with_ended, with_proved}
 use Rattle.gb_state.specs.declared.state.Claim.{Claim}
 use Rattle.gb_state.specs.declared.state.Claim.TheVariants as claim
 use Rattle.gb_accepted.specs.Holding.{IsProved, lemmas_in, names_of}
-use Rattle.gb_accepted.proofs.Grounds.{IsGoalThatEnds, Grounds, IsTyped}
+use Rattle.gb_accepted.proofs.Grounds.{IsGoalThatEnds, Grounds, IsTyped, seen}
 use Rattle.gb_accepted.proofs.Good.{IsGoodLemma, IsGoodTermination, IsGoodClaim, IsGood, StatesProcedures}
-use Rattle.gb_accepted.proofs.Later.{each_with, lemmas_append, name_added, proved_with}
+use Rattle.gb_accepted.proofs.Later.{each_with, firm_together, lemmas_append, name_added, proved_with}
 use Rattle.gb_accepted.proofs.LoopProofs.{named, Continues, loops_continue, loops_proved}
 
--- the first goal may be worked on
-pub claim_continues : Grounds → (ds : Declarations) → IsTyped ds → (c : Claim) (q : Sequent) (rest : List Sequent) → IsGoodClaim ds c (q ∷ rest) → Continues ds (IsGoodClaim ds c) q rest
-claim_continues o ds scoped (claim.Lemma n s bs) q rest h = record {
+-- what the steps of an open proof see is typed
+pub claim_scope : (s : Session) → IsGood s → (c : Claim) (gs : List Sequent) → IsGoodClaim s.scope c gs → IsTyped (seen_in s.scope c)
+claim_scope s g (claim.Lemma n q bs) gs h = h.scope
+claim_scope s g (claim.Loops f) gs h = subst IsTyped (sym (append-nil s.scope)) g.typed
+
+-- the first goal may be worked on, where the modules of the claim are declared
+pub claim_continues : Grounds → (ds : Declarations) → IsTyped ds → IsFirmScope ds → (c : Claim) (q : Sequent) (rest : List Sequent) → IsGoodClaim ds c (q ∷ rest) →
+    Continues (seen_in ds c) (IsGoodClaim ds c) q rest
+claim_continues o ds scoped firm (claim.Lemma n s bs) q rest h = record {
   goal = h.goals.0;
   next = λ qs lead. record {
     free = h.free;
     statement = h.statement;
-    goals = each_together (IsGoalThatEnds ds) qs rest lead.typed h.goals.1;
-    leads = λ hs. let r = each_left (Holds (declared ds)) qs rest hs in h.leads ((lead.leads r.0).0, r.1);
     procedures = h.procedures;
+    scope = h.scope;
+    goals = each_together (IsGoalThatEnds (seen ds s.modules)) qs rest lead.typed h.goals.1;
+    leads = λ hs. let r = each_left (Holds (declared (seen ds s.modules))) qs rest hs in h.leads ((lead.leads r.0).0, r.1);
   };
 }
-claim_continues o ds scoped (claim.Loops f) q rest h =
+claim_continues o ds scoped firm (claim.Loops f) q rest h =
     let m = o.models.model ds scoped in
-    let k = loops_continue ds h.procedure (each_shown ds scoped m.0 m.1 m.2 m.3 (named f) h.procedure h.there) q rest h.loops in
-    record { goal = k.goal; next = λ qs lead. record { procedure = h.procedure; there = h.there; loops = k.next qs lead } }
+    let k = loops_continue ds h.procedure (each_shown ds scoped firm m.0 m.1 m.2 m.3 (named f) h.procedure h.there) q rest h.loops in
+    let continues : Continues ds (IsGoodClaim ds (claim.Loops f)) q rest =
+    record { goal = k.goal; next = λ qs lead. record { procedure = h.procedure; there = h.there; loops = k.next qs lead } } in
+    subst (λ es. Continues es (IsGoodClaim ds (claim.Loops f)) q rest) (sym (append-nil ds)) continues
 
 -- Loops that are proved.
 
@@ -92,6 +102,7 @@ ended_good o s f g h = step (entry_of s.scope (path_of f)) refl
     step : (e : Option Entry) → entry_of s.scope (path_of f) ≡ e → Closed (with_ended s.scope f)
     step (Some e) k = subst Closed (sym (ap (λ x. if is_some x then s.scope else s.scope ++ (path_of f, entry.Terminating f) ∷ []) k)) (record {
       typed = g.typed;
+      firm = g.firm;
       sound = g.sound;
       lemmas = record { names = g.lemmas.names; proved = g.lemmas.proved };
       speaks = g.speaks;
@@ -102,6 +113,7 @@ ended_good o s f g h = step (entry_of s.scope (path_of f)) refl
         let same = same_lemmas s.scope (path_of f) f in
         subst Closed (sym (ap (λ x. if is_some x then s.scope else s.scope ++ (path_of f, entry.Terminating f) ∷ []) k)) (record {
           typed = proof_typed s.scope g.typed f h.procedure h.there k;
+          firm = firm_together s.scope ((path_of f, entry.Terminating f) ∷ []) g.firm (tt, tt);
           sound = gained_proof s.scope (path_of f) f g.sound (terminates s.scope g.typed f h.procedure h.there (loops_proved s.scope h.procedure h.loops));
           lemmas = record {
             names = ap names_of same ∙ g.lemmas.names;
@@ -118,6 +130,7 @@ lemma_good o s n q bs g h =
     let holds = h.leads tt in
     record {
       typed = o.typing.lemma_added s.scope g.typed n h.free q bs h.statement;
+      firm = firm_together s.scope ((n, entry.Lemma q bs) ∷ []) g.firm (tt, tt);
       sound = gained_lemma s.scope n q bs g.sound holds;
       lemmas = record {
         names = name_added s.scope n q bs ∙ ap (λ ns. ns ++ n ∷ []) g.lemmas.names;

@@ -6,7 +6,9 @@ use Rattle.gb_core.specs.declared.refusal.Why.TheVariants.{NoGoal}
 use Rattle.gb_terms.specs.declared.decl.Module.{Module}
 use Rattle.gb_terms.specs.declared.decl.Param.{Param}
 use Rattle.gb_terms.specs.declared.decl.Proc.{Proc}
-use Rattle.gb_goal.specs.Goal.{goal_of}
+use Rattle.gb_terms.specs.declared.term.Term.{out-Term}
+use Rattle.gb_goal.specs.Binders.{with_declared_modules}
+use Rattle.gb_goal.specs.Goal.{goal_of, judges_bodies}
 use Rattle.gb_goal.specs.Scope.{Declarations, as_module, declarations_in, entry_of, proc_if_plain, proc_in, proc_of, procedure_of, ClaimNothing}
 use Rattle.gb_goal.specs.declared.scope.Entry.{Entry}
 use Rattle.gb_goal.specs.declared.scope.Entry.TheVariants as entry
@@ -35,7 +37,6 @@ use Rattle.gb_typing.specs.Scopes.{is_declared, IsTypedScope}
 use Rattle.gb_typing.proofs.Conclusions.{formula_form}
 use Rattle.gb_typing.proofs.Lifted.{each}
 use Rattle.gb_amb.proofs.Cases.{conclusion_formula}
-use Rattle.gb_elab_laws.specs.Procedures.{IsOfProcedures}
 use Rattle.gb_elab_laws.proofs.Given.{given_bind, given_is, if_given, some_given}
 use Rattle.gb_variants.specs.Operand.{Found, ended_at, operand, operand_by, proc_name, procedure_at}
 use Rattle.gb_variants.specs.Variants.{goals_of}
@@ -43,19 +44,20 @@ use Rattle.gb_theory.specs.Built.{Session, OpenProof, with_entries, with_goals}
 use Rattle.gb_theory.specs.Limits.{declaration_limit, each_limit, all_limit}
 use Rattle.gb_theory.specs.Commands.{within, allowed, all_allowed, outside, brought, requires_files, assumes, brings, declares, loops_opened, opens, opens_loops, begun, ended}
 use Rattle.gb_accepted.proofs.Given.{nothing_given, given_outside}
-use Rattle.gb_accepted.proofs.Grounds.{Grounds, IsTypedGoalOf, around}
+use Rattle.gb_accepted.proofs.Grounds.{Grounds, IsTypedGoalOf, around, seen}
 use Rattle.gb_typing.specs.Naming.{NoName}
-use Rattle.gb_models.specs.Speaking.{ScopeSpeaks}
+use Rattle.gb_models.specs.Speaking.{IsFirmScope, ScopeSpeaks}
 use Rattle.gb_accepted.proofs.Claims.{claim_proved}
 use Rattle.gb_accepted.proofs.Good.{IsGoodClaim, IsGoodIfOpen, IsGoodTermination, IsGood, StatesProcedures}
-use Rattle.gb_accepted.proofs.Later.{each_later, names_stay, proved_later}
+use Rattle.gb_accepted.proofs.Later.{each_later, firm_together, names_stay, proved_later}
 use Rattle.gb_accepted.proofs.LoopProofs.{named, IsGoodLoops, loops_begin}
 
--- a session in which more is declared, none of which is a lemma
-with_more : Grounds → (s : Session) (added : Declarations) → s.proof ≡ None → IsGood s → IsTypedScope (declared (s.scope ++ added)) → ClaimNothing added → ScopeSpeaks NoName (declared added) →
+-- a session in which more is declared, none of which is a lemma or an abstract module
+with_more : Grounds → (s : Session) (added : Declarations) → s.proof ≡ None → IsGood s → IsTypedScope (declared (s.scope ++ added)) → ClaimNothing added → IsFirmScope added → ScopeSpeaks NoName (declared added) →
     IsGood (with_entries s added)
-with_more o s added none g typed others speaks = record {
+with_more o s added none g typed others firm speaks = record {
   typed = typed;
+  firm = firm_together s.scope added g.firm firm;
   sound = gained_others s.scope added others g.sound;
   lemmas = record { names = names_stay s.scope added others ∙ g.lemmas.names; proved = proved_later s.scope added others g.lemmas.proved };
   speaks = (o.models.parts s.scope added).1 (g.speaks, speaks);
@@ -69,7 +71,8 @@ brings_keeps o s t place next g e =
     let b = given_bind (entries_given s.scope t) _ next a.2 in
     let c = given_bind (within (declaration_limit (declarations_in s.scope)) place) _ next b.2 in
     subst IsGood (given_is _ _ c.2)
-    (with_more o s b.0 (given_outside s.proof place a.0 a.1) g (o.typing.entries_added s.scope g.typed t b.0 b.1) (o.typing.others s.scope t b.0 b.1) (o.typing.entries_speak s.scope g.typed t b.0 b.1))
+    (with_more o s b.0 (given_outside s.proof place a.0 a.1) g (o.typing.entries_added s.scope g.typed t b.0 b.1) (o.typing.others s.scope t b.0 b.1) (o.typing.entries_firm s.scope g.typed t b.0 b.1)
+    (o.typing.entries_speak s.scope g.typed t b.0 b.1))
 
 pub requires_keeps : (s : Session) (names : List Node) (place : Place) (next : Session) → IsGood s → requires_files s names place ≡ given next → IsGood next
 requires_keeps s names place next g e =
@@ -86,18 +89,18 @@ declares_keeps o s t place next g e =
     let b = given_bind (module_given s.scope t) _ next a.2 in
     let c = given_bind (within (declaration_limit (declarations_in s.scope)) place) _ next b.2 in
     subst IsGood (given_is _ _ c.2)
-    (with_more o s ((b.0.name, entry.Module b.0) ∷ []) (given_outside s.proof place a.0 a.1) g (o.typing.module_added s.scope g.typed t b.0 b.1) (refl, tt) (o.typing.module_speaks s.scope g.typed t b.0 b.1, tt))
+    (with_more o s ((b.0.name, entry.Module b.0) ∷ []) (given_outside s.proof place a.0 a.1) g (o.typing.module_added s.scope g.typed t b.0 b.1) (refl, tt) (tt, tt) (o.typing.module_speaks s.scope g.typed t b.0 b.1, tt))
 
 -- a statement about procedures has no body
-statement_ends : Grounds → (ds : Declarations) (q : Sequent) → IsTypedGoalOf ds q → IsOfProcedures q → SequentEnds (declared ds) q
-statement_ends o ds q t p = step (has_module q.conclusion) refl
+statement_ends : Grounds → (ds : Declarations) (q : Sequent) → IsTypedGoalOf ds q → judges_bodies (out-Term q.conclusion).head ≡ false → SequentEnds (declared ds) q
+statement_ends o ds q t bodies = step (has_module q.conclusion) refl
   where
     step : (b : Bool) → has_module q.conclusion ≡ b → SequentEnds (declared ds) q
     step true k = λ w size table m.
         each (declared ds) (declared_modules (declared ds)) (interpretation w size table) _
         (λ i. each (declared ds) q.modules i (λ k. LoopsEnd (setting (declared ds) k) (goal_of q.conclusion)) (λ x. subst (LoopsEnd (setting (declared ds) x)) (sym (o.rules.front q.conclusion k)) tt))
     step false k =
-        let f = formula_form (around ds q t) q.conclusion (conclusion_formula (around ds q t) q.conclusion t.conclusion p.bodies) k in
+        let f = formula_form (around ds q t) q.conclusion (conclusion_formula (around ds q t) q.conclusion t.conclusion bodies) k in
         o.loops.forms (declared ds) q (around ds q t) f.typed
 
 pub opens_keeps : Grounds → (s : Session) (t : Node) (name : List ℕ) (place : Place) (next : Session) → IsGood s → lemma_name t ≡ name →
@@ -107,20 +110,23 @@ opens_keeps o s t name place next g same e =
     let b = given_bind (statement_given s.scope t) _ next a.2 in
     let c = given_bind (within (declaration_limit (declarations_in s.scope)) place) _ next b.2 in
     let d = given_bind (within (each_limit (b.0 ∷ [])) place) _ next c.2 in
-    let typed = o.typing.statement s.scope g.typed t b.0 b.1 in
-    let procedures = o.typing.procedures s.scope g.typed t b.0 b.1 in
+    let q = b.0 in
+    let procedures = o.typing.procedures s.scope g.typed t q b.1 in
+    let goal = o.typing.statement_goal s.scope g.typed t q b.1 in
     subst IsGood (given_is _ _ d.2) (record {
       typed = g.typed;
+      firm = g.firm;
       sound = g.sound;
       lemmas = record { names = g.lemmas.names; proved = g.lemmas.proved };
       speaks = g.speaks;
       statements = g.statements;
       proof = record {
-        free = subst (λ n. is_declared (declared s.scope) n ≡ false) same (o.typing.free s.scope t b.0 b.1);
-        statement = typed;
-        goals = (record { typed = typed; alone = (let w = procedures.without in w.modules); ends = statement_ends o s.scope b.0 typed procedures }, tt);
-        leads = λ hs. hs.0;
+        free = subst (λ n. is_declared (declared s.scope) n ≡ false) same (o.typing.free s.scope t q b.1);
+        statement = o.typing.statement s.scope g.typed t q b.1;
         procedures = procedures;
+        scope = o.typing.statement_scope s.scope g.typed t q b.1;
+        goals = (record { typed = goal; alone = refl; ends = statement_ends o (seen s.scope q.modules) (with_declared_modules q) goal procedures.bodies }, tt);
+        leads = λ hs. o.models.without_declared s.scope q hs.0;
       };
     })
 
@@ -176,6 +182,7 @@ opens_loops_keeps o s t place next g e =
     record { procedure = f.1; there = there; loops = subst (IsGoodLoops s.scope f.1) same (loops_begin s.scope f.1) } in
     subst IsGood (ap (λ p. let x : Session = record s { proof = Some p } in x) (given_is _ b.0 d.2) ∙ given_is _ next b.2) (record {
       typed = g.typed;
+      firm = g.firm;
       sound = g.sound;
       lemmas = record { names = g.lemmas.names; proved = g.lemmas.proved };
       speaks = g.speaks;
@@ -187,6 +194,7 @@ pub begun_keeps : (s : Session) (p : OpenProof) (place : Place) (next : Session)
 begun_keeps s p place next g h e =
     subst IsGood (if_given p.fresh (with_goals s p p.goals) NoGoal place next e).1 (record {
       typed = g.typed;
+      firm = g.firm;
       sound = g.sound;
       lemmas = record { names = g.lemmas.names; proved = g.lemmas.proved };
       speaks = g.speaks;

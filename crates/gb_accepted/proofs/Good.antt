@@ -11,22 +11,23 @@ use Rattle.gb_typing.specs.Sequents.{IsTypedSequent}
 use Rattle.gb_typing.specs.Scopes.{context_of, is_declared, IsTypedScope}
 use Rattle.gb_theory.specs.Built.{Session, OpenProof, fresh_session}
 use Rattle.gb_typing.specs.Naming.{NoName}
-use Rattle.gb_models.specs.Speaking.{ScopeSpeaks}
+use Rattle.gb_models.specs.Speaking.{IsFirmScope, ScopeSpeaks}
 use Rattle.gb_elab_laws.specs.Procedures.{IsOfProcedures}
 use Rattle.gb_state.specs.declared.state.Claim.{Claim}
 use Rattle.gb_state.specs.declared.state.Claim.TheVariants as claim
 use Rattle.gb_accepted.specs.Holding.{AllHold, Lemma, lemmas_in}
-use Rattle.gb_accepted.proofs.Grounds.{IsGoalThatEnds}
+use Rattle.gb_accepted.proofs.Grounds.{IsGoalThatEnds, IsTyped, seen}
 use Rattle.gb_accepted.proofs.LoopProofs.{named, IsGoodLoops}
 
--- The name of an open lemma is free, its statement, which is about procedures, is typed, its goals may be worked on, and where they
--- hold it does.
+-- The name of an open lemma is free, and its statement, which is about procedures, is typed. Its goals may be worked on where the modules
+-- that it binds are declared, and where they hold there, it does.
 pub record IsGoodLemma (ds : Declarations) (n : List ℕ) (q : Sequent) (gs : List Sequent) : Type 0 where
   pub free : is_declared (declared ds) n ≡ false
   pub statement : IsTypedSequent (context_of (declared ds)) q
-  pub goals : AllByRecursion (IsGoalThatEnds ds) gs
-  pub leads : AllByRecursion (Holds (declared ds)) gs → Holds (declared ds) q
   pub procedures : IsOfProcedures q
+  pub scope : IsTyped (seen ds q.modules)
+  pub goals : AllByRecursion (IsGoalThatEnds (seen ds q.modules)) gs
+  pub leads : AllByRecursion (Holds (declared (seen ds q.modules))) gs → Holds (declared ds) q
 
 -- an open proof that the loops of a declared procedure end
 pub record IsGoodTermination (ds : Declarations) (f : ProcName) (gs : List Sequent) : Type 0 where
@@ -48,6 +49,7 @@ StatesProcedures l = IsOfProcedures l.statement
 
 pub record IsGood (s : Session) : Type 0 where
   pub typed : IsTypedScope (declared s.scope)
+  pub firm : IsFirmScope s.scope
   pub sound : IsSound (declared s.scope)
   pub lemmas : AllHold s
   pub speaks : ScopeSpeaks NoName (declared s.scope)
@@ -55,4 +57,4 @@ pub record IsGood (s : Session) : Type 0 where
   pub proof : IsGoodIfOpen s.scope s.proof
 
 pub fresh_is_good : IsGood fresh_session
-fresh_is_good = record { typed = tt; sound = tt; lemmas = record { names = refl; proved = tt }; speaks = tt; statements = tt; proof = tt }
+fresh_is_good = record { typed = tt; firm = tt; sound = tt; lemmas = record { names = refl; proved = tt }; speaks = tt; statements = tt; proof = tt }

@@ -6,10 +6,12 @@ use Rattle.gb_core.specs.declared.place.Place.{Place}
 use Rattle.gb_core.specs.declared.refusal.Why.TheVariants.{Shape}
 use Rattle.gb_terms.specs.declared.decl.Module.{Module}
 use Rattle.gb_terms.specs.declared.decl.TypedName.{TypedName}
+use Rattle.gb_terms.specs.declared.module.Bind.{Bind}
 use Rattle.gb_terms.specs.declared.module.ProcRef.{ProcRef}
 use Rattle.gb_terms.specs.declared.term.Term.{Term}
 use Rattle.gb_script.specs.declared.tree.Node.{Node}
 use Rattle.gb_goal.specs.Answers.Answer.{given}
+use Rattle.gb_goal.specs.Binders.{binder_entries, with_declared_modules}
 use Rattle.gb_goal.specs.Goal.{Goal, goal_of}
 use Rattle.gb_goal.specs.Goal.Goal.{ambient}
 use Rattle.gb_goal.specs.Rows.{Row, refusing, answered}
@@ -64,7 +66,7 @@ use Rattle.gb_use.specs.Lemmas.{IsKnown, LemmasHold}
 use Rattle.gb_use.specs.Uses as uses
 use Rattle.gb_rewrite.specs.Rewriting.{IsUsable, rewrite_answer}
 use Rattle.gb_elab_laws.specs.Procedures.{AreStated, IsOfProcedures}
-use Rattle.gb_models.specs.Speaking.{DeclarationSpeaks, GoalSpeaks, IsWithoutModules, ScopeSpeaks}
+use Rattle.gb_models.specs.Speaking.{DeclarationSpeaks, GoalSpeaks, IsFirmScope, IsWithoutModules, ScopeSpeaks}
 use Rattle.gb_smt.specs.Leaves.{leaves_of}
 use Rattle.gb_smt.specs.Apply.{IsClosed}
 use Rattle.gb_elab_prog.specs.Entries.{entries_given}
@@ -83,6 +85,10 @@ IsTypedGoalOf ds q = IsTypedSequent (context_of (declared ds)) q
 abbrev pub around : (ds : scope.Declarations) (q : Sequent) → IsTypedGoalOf ds q → Context
 around ds q t = of_sequent (context_of (declared ds)) q t.frames
 
+-- the declarations that the steps of a proof see: behind the others those of the abstract modules that its lemma binds
+abbrev pub seen : scope.Declarations → List Bind → scope.Declarations
+seen ds bs = ds ++ binder_entries bs
+
 -- a typed goal without modules, the loops of whose bodies end
 pub record IsGoalThatEnds (ds : scope.Declarations) (q : Sequent) : Type 0 where
   pub typed : IsTypedGoalOf ds q
@@ -93,11 +99,14 @@ pub record IsGoalThatEnds (ds : scope.Declarations) (q : Sequent) : Type 0 where
 pub record OfTyping : Type 0 where
   pub entries_added : (ds : scope.Declarations) → IsTyped ds → (t : Node) (added : scope.Declarations) → entries_given ds t ≡ given added → IsTyped (ds ++ added)
   pub others : (ds : scope.Declarations) (t : Node) (added : scope.Declarations) → entries_given ds t ≡ given added → ClaimNothing added
+  pub entries_firm : (ds : scope.Declarations) → IsTyped ds → (t : Node) (added : scope.Declarations) → entries_given ds t ≡ given added → IsFirmScope added
   pub entries_speak : (ds : scope.Declarations) → IsTyped ds → (t : Node) (added : scope.Declarations) → entries_given ds t ≡ given added → ScopeSpeaks NoName (declared added)
   pub module_speaks : (ds : scope.Declarations) → IsTyped ds → (t : Node) (m : Module) → module_given ds t ≡ given m → DeclarationSpeaks NoName (concrete_module m)
   pub procedures : (ds : scope.Declarations) → IsTyped ds → (t : Node) (q : Sequent) → statement_given ds t ≡ given q → IsOfProcedures q
   pub module_added : (ds : scope.Declarations) → IsTyped ds → (t : Node) (m : Module) → module_given ds t ≡ given m → IsTyped (ds ++ (m.name, entry.Module m) ∷ [])
   pub statement : (ds : scope.Declarations) → IsTyped ds → (t : Node) (q : Sequent) → statement_given ds t ≡ given q → IsTypedGoalOf ds q
+  pub statement_scope : (ds : scope.Declarations) → IsTyped ds → (t : Node) (q : Sequent) → statement_given ds t ≡ given q → IsTyped (seen ds q.modules)
+  pub statement_goal : (ds : scope.Declarations) → IsTyped ds → (t : Node) (q : Sequent) → statement_given ds t ≡ given q → IsTypedGoalOf (seen ds q.modules) (with_declared_modules q)
   pub free : (ds : scope.Declarations) (t : Node) (q : Sequent) → statement_given ds t ≡ given q → is_declared (declared ds) (lemma_name t) ≡ false
   pub lemma_added : (ds : scope.Declarations) → IsTyped ds → (n : Name) → is_declared (declared ds) n ≡ false → (q : Sequent) (bs : List Binder) → IsTypedGoalOf ds q →
       IsTyped (ds ++ (n, entry.Lemma q bs) ∷ [])
@@ -173,8 +182,8 @@ pub record OfLoops : Type 0 where
       AllByRecursion (IsTypedSequent (context_of ds)) qs × (SequentEnds ds q → AllByRecursion (SequentEnds ds) qs × (AllByRecursion (Holds ds) qs → Holds ds q))
   pub bodies : (ds : scope.Declarations) → IsTyped ds → (r : Rule) (G : Goal) (Gs : List Goal) → bodies.rule_row ds r G ≡ given Gs →
       (g : Setting) → IsSettingOver (declared ds) g → Entered ds g r G → LoopsEnd g G → AllByRecursion (LoopsEnd g) Gs
-  pub entered : (ds : scope.Declarations) → IsTyped ds → IsSound (declared ds) → ScopeSpeaks NoName (declared ds) → (q : Sequent) → IsTypedGoalOf ds q → q.modules ≡ [] →
-      unproved_in ds (goal_of q.conclusion) ≡ None → InEachSetting (declared ds) q (λ g. ProceduresEnd ds g (goal_of q.conclusion))
+  pub entered : (ds : scope.Declarations) (bs : List Bind) → IsTyped (seen ds bs) → IsFirmScope ds → IsSound (declared ds) → ScopeSpeaks NoName (declared ds) → (q : Sequent) → IsTypedGoalOf (seen ds bs) q → q.modules ≡ [] →
+      unproved_in (seen ds bs) (goal_of q.conclusion) ≡ None → InEachSetting (declared (seen ds bs)) q (λ g. ProceduresEnd (seen ds bs) g (goal_of q.conclusion))
   pub relational : (ds : scope.Declarations) (c : Context) (ls rs : List TypedName) (r : Rule) (G : Goal) → IsGoalOver c ls rs G → (Gs : List Goal) → equiv.rule_row ds r G ≡ given Gs → KeepsEnds (declared ds) Gs G
   pub chances : (ds : scope.Declarations) (c : Context) (ls rs : List TypedName) (r : Rule) (G : Goal) → IsGoalOver c ls rs G → (Gs : List Goal) → chance_rows.rule_row ds r G ≡ given Gs → KeepsEnds (declared ds) Gs G
   pub calls : (ds : scope.Declarations) (c : Context) (ls rs : List TypedName) (r : Rule) (G : Goal) → IsGoalOver c ls rs G → (Gs : List Goal) → call_rows.rule_row ds r G ≡ given Gs → KeepsEnds (declared ds) Gs G
@@ -192,23 +201,29 @@ pub record OfLoops : Type 0 where
       IsSoundLoopRule (declared ds) (around ds q t) (while_row ds a v) (IsTypedInvariant (around ds q t) v)
   pub transformations : (ds : scope.Declarations) → IsTyped ds → (q : Sequent) (t : IsTypedGoalOf ds q) (r : Rule) →
       IsSoundProvedRule ds (around ds q t) (transformation_rows.rule_row ds r)
-  pub beside : (ds : Declarations) → IsTypedScope ds → (q : Sequent) (t : IsTypedSequent (context_of ds) q) → type_of q.conclusion ≡ ty.Bool → (ls rs : List TypedName) →
-      IsGoalOver (of_sequent (context_of ds) q t.frames) ls rs (goal_of q.conclusion) → (n : ℕ) (u : Bool) (a : Acts) (place : Place) (qs : List Sequent) → beside_answer n u a place q ≡ given qs →
-      AllByRecursion (IsTypedSequent (context_of ds)) qs × (SequentEnds ds q → AllByRecursion (SequentEnds ds) qs × (AllByRecursion (Holds ds) qs → Holds ds q))
-  pub proved : (ds : scope.Declarations) → IsTyped ds → IsSound (declared ds) → ScopeSpeaks NoName (declared ds) → (q : Sequent) → IsTypedGoalOf ds q → q.modules ≡ [] → InEachSetting (declared ds) q (ProvedEnd ds)
+  pub beside : (ds : scope.Declarations) → IsTyped ds → (q : Sequent) (t : IsTypedGoalOf ds q) → type_of q.conclusion ≡ ty.Bool → (ls rs : List TypedName) →
+      IsGoalOver (around ds q t) ls rs (goal_of q.conclusion) → (n : ℕ) (u : Bool) (a : Acts) (place : Place) (qs : List Sequent) → beside_answer ds n u a place q ≡ given qs →
+      AllByRecursion (IsTypedGoalOf ds) qs × (SequentEnds (declared ds) q → AllByRecursion (SequentEnds (declared ds)) qs × (AllByRecursion (Holds (declared ds)) qs → Holds (declared ds) q))
+  pub proved : (ds : scope.Declarations) (bs : List Bind) → IsTyped (seen ds bs) → IsFirmScope ds → IsSound (declared ds) → ScopeSpeaks NoName (declared ds) → (q : Sequent) → IsTypedGoalOf (seen ds bs) q → q.modules ≡ [] →
+      InEachSetting (declared (seen ds bs)) q (ProvedEnd (seen ds bs))
   pub with_proved : (ds : scope.Declarations) → IsTyped ds → (q : Sequent) (t : IsTypedGoalOf ds q) → type_of q.conclusion ≡ ty.Bool → (ls rs : List TypedName) →
       IsGoalOver (around ds q t) ls rs (goal_of q.conclusion) → InEachSetting (declared ds) q (ProvedEnd ds) → (row : Row) →
       ((Gs : List Goal) → row (goal_of q.conclusion) ≡ given Gs → IsSoundOnProved ds (around ds q t) Gs (goal_of q.conclusion)) →
       (qs : List Sequent) → answered row q ≡ given qs →
       AllByRecursion (IsTypedSequent (context_of (declared ds))) qs × (SequentEnds (declared ds) q → AllByRecursion (SequentEnds (declared ds)) qs × (AllByRecursion (Holds (declared ds)) qs → Holds (declared ds) q))
 
--- Typed scopes have models, equivalences give couplings, and what holds goes on to hold.
+-- Typed scopes have models, equivalences give couplings, and what holds goes on to hold, also beside abstract modules; and what holds where
+-- its modules are declared holds.
 pub record OfModels : Type 0 where
   pub model : (ds : scope.Declarations) → IsTyped ds → HasModel ds
-  pub coupled : (ds : scope.Declarations) → IsTyped ds → (xs : List TypedName) (ms : List Name) (f h : ProcRef) (P Q : Term) → IsTypedGoalOf ds (stated xs ms (equivalence f h P Q)) →
-      Holds (declared ds) (stated xs ms (equivalence f h P Q)) → AreCoupledInEachModel ds xs f h P Q
-  pub stay : (ds es : scope.Declarations) → IsTyped (ds ++ es) → (q : Sequent) → IsTypedGoalOf ds q → IsWithoutModules q → ScopeSpeaks NoName (declared (ds ++ es)) → GoalSpeaks NoName q → Holds (declared ds) q → Holds (declared (ds ++ es)) q
+  pub coupled : (ds : scope.Declarations) → IsTyped ds → (xs : List TypedName) (ms : List Name) (bs : List Bind) (f h : ProcRef) (P Q : Term) →
+      IsTypedGoalOf ds (stated xs ms bs (equivalence f h P Q)) → Holds (declared ds) (stated xs ms bs (equivalence f h P Q)) → AreCoupledInEachModel ds xs bs f h P Q
+  pub stay : (ds es : scope.Declarations) → IsTyped (ds ++ es) → IsFirmScope (ds ++ es) → (q : Sequent) → IsTypedGoalOf ds q → IsWithoutModules q →
+      ScopeSpeaks NoName (declared (ds ++ es)) → GoalSpeaks NoName q → Holds (declared ds) q → Holds (declared (ds ++ es)) q
   pub stay_typed : (ds es : scope.Declarations) → IsTyped (ds ++ es) → (q : Sequent) → IsTypedGoalOf ds q → IsWithoutModules q → IsTypedGoalOf (ds ++ es) q
+  pub stay_seen : (ds : scope.Declarations) (bs : List Bind) → IsTyped (seen ds bs) → IsFirmScope ds → (q : Sequent) → IsTypedGoalOf ds q → IsWithoutModules q →
+      ScopeSpeaks NoName (declared ds) → GoalSpeaks NoName q → Holds (declared ds) q → Holds (declared (seen ds bs)) q
+  pub without_declared : (ds : scope.Declarations) (q : Sequent) → Holds (declared (seen ds q.modules)) (with_declared_modules q) → Holds (declared ds) q
   pub parts : (ds es : scope.Declarations) → ScopeSpeaks NoName (declared (ds ++ es)) ↔ (ScopeSpeaks NoName (declared ds) × ScopeSpeaks NoName (declared es))
 
 pub record Grounds : Type 0 where

@@ -12,6 +12,7 @@ use Rattle.gb_holds.specs.Declared.{declared}
 use Rattle.gb_holds.specs.Holds.{Holds}
 use Rattle.gb_typing.specs.Sequents.{IsTypedSequent}
 use Rattle.gb_typing.specs.Scopes.{context_of, IsTypedScope}
+use Rattle.gb_models.specs.Speaking.{IsFirmScope}
 use Rattle.gb_smt_laws.proofs.Used.{each_together}
 use Rattle.gb_accepted.specs.Holding.{Lemma, IsProved, with_entry, lemmas_in, names_of}
 
@@ -21,6 +22,7 @@ with_more before n (entry.Lemma q order) ls ks = refl
 with_more before n (entry.Type t) ls ks = refl
 with_more before n entry.AbstractType ls ks = refl
 with_more before n (entry.ModuleType y) ls ks = refl
+with_more before n (entry.AbstractModule y) ls ks = refl
 with_more before n (entry.Constant c) ls ks = refl
 with_more before n (entry.Operator o) ls ks = refl
 with_more before n (entry.AbstractOperator o) ls ks = refl
@@ -39,6 +41,7 @@ no_lemma before n (entry.Lemma q order) ls h = absurd (cc)
 no_lemma before n (entry.Type t) ls h = refl
 no_lemma before n entry.AbstractType ls h = refl
 no_lemma before n (entry.ModuleType y) ls h = refl
+no_lemma before n (entry.AbstractModule y) ls h = refl
 no_lemma before n (entry.Constant c) ls h = refl
 no_lemma before n (entry.Operator o) ls h = refl
 no_lemma before n (entry.AbstractOperator o) ls h = refl
@@ -47,6 +50,11 @@ no_lemma before n (entry.Terminating p) ls h = absurd (cc)
 none_in : (before added : Declarations) → ClaimNothing added → lemmas_in before added ≡ []
 none_in before [] h = refl
 none_in before (d ∷ added) h = no_lemma before d.0 d.1 _ h.0 ∙ none_in (before ++ d ∷ []) added h.1
+
+-- behind declarations without abstract modules stand others
+pub firm_together : (ds es : Declarations) → IsFirmScope ds → IsFirmScope es → IsFirmScope (ds ++ es)
+firm_together [] es h k = k
+firm_together (d ∷ ds) es h k = (h.0, firm_together ds es h.1 k)
 
 module _ (ds added : Declarations) (others : ClaimNothing added) where
   same_lemmas : lemmas_in [] (ds ++ added) ≡ lemmas_in [] ds

@@ -74,30 +74,30 @@ module _ (q : Sequent) where
 
   -- A guard on one of two programs.
 
-  decided_same : (b : Bool) (o : OneBody) (k : At) (d : Option Decision) (qs : List Sequent) → by_decision b q o k d ≡ given qs → Same qs
-  decided_same b o k None qs e = refused_given Shape qs e
-  decided_same b o k (Some d) qs e = subst Same (same_given _ qs e) (refl, (refl, tt))
+  decided_same : (ds : Declarations) (b : Bool) (o : OneBody) (k : At) (d : Option Decision) (qs : List Sequent) → by_decision ds b q o k d ≡ given qs → Same qs
+  decided_same ds b o k None qs e = refused_given Shape qs e
+  decided_same ds b o k (Some d) qs e = subst Same (same_given _ qs e) (refl, (refl, tt))
 
-  statement_same : (b : Bool) (o : OneBody) (k : Option At) (qs : List Sequent) → on_place (λ k. by_decision b q o k (decision b k.statement (out-Instr k.statement))) k ≡ given qs → Same qs
-  statement_same b o None qs e = refused_given Argument qs e
-  statement_same b o (Some k) qs e = decided_same b o k (decision b k.statement (out-Instr k.statement)) qs e
+  statement_same : (ds : Declarations) (b : Bool) (o : OneBody) (k : Option At) (qs : List Sequent) → on_place (λ k. by_decision ds b q o k (decision b k.statement (out-Instr k.statement))) k ≡ given qs → Same qs
+  statement_same ds b o None qs e = refused_given Argument qs e
+  statement_same ds b o (Some k) qs e = decided_same ds b o k (decision b k.statement (out-Instr k.statement)) qs e
 
-  body_same : (n : ℕ) (b : Bool) (o : Option OneBody) (qs : List Sequent) → on_body n b q o ≡ given qs → Same qs
-  body_same n b None qs e = refused_given Shape qs e
-  body_same n b (Some o) qs e = step (speaks o.pre) e
+  body_same : (ds : Declarations) (n : ℕ) (b : Bool) (o : Option OneBody) (qs : List Sequent) → on_body ds n b q o ≡ given qs → Same qs
+  body_same ds n b None qs e = refused_given Shape qs e
+  body_same ds n b (Some o) qs e = step (speaks o.pre) e
     where
-      step : (z : Bool) → (if z then refusing Shape else at_place n b q o) ≡ given qs → Same qs
+      step : (z : Bool) → (if z then refusing Shape else at_place ds n b q o) ≡ given qs → Same qs
       step true e = refused_given Shape qs e
-      step false e = statement_same b o (statement_at n o.list) qs e
+      step false e = statement_same ds b o (statement_at n o.list) qs e
 
-  beside_same : (n : ℕ) (b : Bool) (a : Acts) (place : Place) (qs : List Sequent) → given qs ≡ beside_answer n b a place q → Same qs
-  beside_same n b a place qs e = by_test (goal_quantifies_modules q) e
+  beside_same : (ds : Declarations) (n : ℕ) (b : Bool) (a : Acts) (place : Place) (qs : List Sequent) → given qs ≡ beside_answer ds n b a place q → Same qs
+  beside_same ds n b a place qs e = by_test (goal_quantifies_modules q) e
     where
       answer : Answer (List Sequent)
-      answer = on_body n b q (one_of_two a (goal_of q.conclusion))
+      answer = on_body ds n b q (one_of_two a (goal_of q.conclusion))
 
       by_answer : (x : Answer (List Sequent)) → answer ≡ x → given qs ≡ placed_at place x → Same qs
-      by_answer (given ps) u e = body_same n b (one_of_two a (goal_of q.conclusion)) qs (u ∙ sym e)
+      by_answer (given ps) u e = body_same ds n b (one_of_two a (goal_of q.conclusion)) qs (u ∙ sym e)
       by_answer (refused w p) u e = refused_at w _ qs (sym e)
 
       by_test : (z : Bool) → given qs ≡ (if z then refused Shape place else placed_at place answer) → Same qs
@@ -134,8 +134,8 @@ module _ (q : Sequent) where
 
     guard_same : (a : Acts) (n : ℕ) (b : Bool) (place : Place) (qs : List Sequent) → given qs ≡ on_guard ds a n b place q → Same qs
     guard_same on.All n b place qs e = row_same (row_of ds (rule.Transform on.All (transformation.Decided n b))) place qs e
-    guard_same on.Left n b place qs e = beside_same n b on.Left place qs e
-    guard_same on.Right n b place qs e = beside_same n b on.Right place qs e
+    guard_same on.Left n b place qs e = beside_same ds n b on.Left place qs e
+    guard_same on.Right n b place qs e = beside_same ds n b on.Right place qs e
 
     transformed_same : (a : Acts) (k : Transformation) (place : Place) (qs : List Sequent) → given qs ≡ transformed ds a k place q → Same qs
     transformed_same a (transformation.Decided n b) place qs e = guard_same a n b place qs e

@@ -41,9 +41,7 @@ use Rattle.gb_steps.specs.declared.step.Transformation.TheVariants as transforma
 use Rattle.gb_beside.specs.Beside.{beside_answer, on_body, one_of_two}
 use Rattle.gb_holds.specs.Declared as holds
 use Rattle.gb_holds.specs.Declared.{declared}
-use Rattle.gb_holds.specs.Holds.{Holds, InEachSetting, IsSound, declared_modules, interpretation}
-use Rattle.gb_typing.specs.Naming.{NoName}
-use Rattle.gb_models.specs.Speaking.{ScopeSpeaks}
+use Rattle.gb_holds.specs.Holds.{Holds, InEachSetting, declared_modules, interpretation}
 use Rattle.gb_holds.specs.Truth.{has_module}
 use Rattle.gb_typing.specs.Typing.{IsForm, after}
 use Rattle.gb_typing.specs.Sequents.{IsTypedSequent}
@@ -59,7 +57,7 @@ use Rattle.gb_pr.specs.Rows as probabilities
 use Rattle.gb_bodies.specs.Case.{IsTypedCase}
 use Rattle.gb_bodies.specs.Rows as bodies
 use Rattle.gb_ended.specs.Loops.{unproved_in}
-use Rattle.gb_inline.specs.Proved.{IsSoundOnProved}
+use Rattle.gb_inline.specs.Proved.{IsSoundOnProved, ProvedEnd}
 use Rattle.gb_closing_laws.proofs.LinearIsSound.{closes}
 use Rattle.gb_loops.specs.While.{IsTypedInvariant, while_row}
 use Rattle.gb_relational.specs.Rows.{IsTypedRule}
@@ -135,8 +133,10 @@ while_refused ds on.Right v f = refl
 anywhere : (ds : holds.Declarations) (q : Sequent) → InEachSetting ds q (λ g. Unit {0})
 anywhere ds q = λ w size table m. each ds (declared_modules ds) (interpretation w size table) _ (λ i. each ds q.modules i (λ k. Unit {0}) (λ k. tt))
 
-module _ (g : Grounds) (ds : Declarations) (scope : IsTyped ds) (sound : IsSound (declared ds)) (speaks : ScopeSpeaks NoName (declared ds)) (holds : LemmasHold (declared ds)) (q : Sequent) (t : IsTypedGoalOf ds q)
-    (alone : q.modules ≡ []) where
+-- In a typed scope whose lemmas hold, at a typed goal of which is known where the loops of procedures end that it speaks of, and which
+-- proved loops end.
+module _ (g : Grounds) (ds : Declarations) (scope : IsTyped ds) (holds : LemmasHold (declared ds)) (q : Sequent) (t : IsTypedGoalOf ds q)
+    (ended : unproved_in ds (goal_of q.conclusion) ≡ None → InEachSetting (declared ds) q (λ s. ProceduresEnd ds s (goal_of q.conclusion))) (proved : InEachSetting (declared ds) q (ProvedEnd ds)) where
   -- no rule on judgments or on probabilities works where a module is quantified in front
   ambient_refused : (r : Rule) (f : Term) → has_module f ≡ true → row_of ds r (ambient f) ≡ refusing Shape
   ambient_refused (rule.OnBodies r) f e = g.rules.bodies_refuse ds (rule.OnBodies r) f
@@ -201,7 +201,7 @@ module _ (g : Grounds) (ds : Declarations) (scope : IsTyped ds) (sound : IsSound
   by_proved_law r place qs law e =
       by_row r place qs e
       (λ ls rs w truth gives.
-      let k = g.loops.with_proved ds scope q t truth ls rs w (g.loops.proved ds scope sound speaks q t alone) (row_of ds r) (law ls rs w) qs gives in
+      let k = g.loops.with_proved ds scope q t truth ls rs w proved (row_of ds r) (law ls rs w) qs gives in
       record { typed = k.0; ends = λ h. (k.1 h).0; leads = λ h. (k.1 h).1 })
 
   -- the same statements on both sides
@@ -230,7 +230,7 @@ module _ (g : Grounds) (ds : Declarations) (scope : IsTyped ds) (sound : IsSound
   entered_ends on_bodies.Proc place x e = by_unproved (unproved_in ds G) refl e
     where
       by_unproved : (o : Option ProcName) → unproved_in ds G ≡ o → unless_unproved o place ≡ given x → InEachSetting (declared ds) q (λ s. ProceduresEnd ds s G)
-      by_unproved None k e = g.loops.entered ds scope sound speaks q t alone k
+      by_unproved None k e = ended k
       by_unproved (Some p) k e = nothing_given _ _ x e
   entered_ends on_bodies.Skip place x e = anywhere (declared ds) q
   entered_ends (on_bodies.Seq k r) place x e = anywhere (declared ds) q
@@ -302,24 +302,24 @@ module _ (g : Grounds) (ds : Declarations) (scope : IsTyped ds) (sound : IsSound
   none_of_two on.Left f = refl
   none_of_two on.Right f = refl
 
-  beside_refused : {X : Type 0} (n : ℕ) (u : Bool) (b : Acts) (place : Place) (qs : List Sequent) → G ≡ ambient q.conclusion → beside_answer n u b place q ≡ given qs → X
+  beside_refused : {X : Type 0} (n : ℕ) (u : Bool) (b : Acts) (place : Place) (qs : List Sequent) → G ≡ ambient q.conclusion → beside_answer ds n u b place q ≡ given qs → X
   beside_refused {X} n u b place qs is e = by_test (goal_quantifies_modules q) e
     where
-      by_test : (m : Bool) → (if m then refused Shape place else placed_at place (on_body n u q (one_of_two b G))) ≡ given qs → X
+      by_test : (m : Bool) → (if m then refused Shape place else placed_at place (on_body ds n u q (one_of_two b G))) ≡ given qs → X
       by_test true e = nothing_given _ _ qs e
       by_test false e =
           nothing_given _ _ qs
-          (sym (sym (given_placed (on_body n u q (one_of_two b G)) place qs (sym e)) ∙ ap (λ Y. on_body n u q (one_of_two b Y)) is ∙ ap (on_body n u q) (none_of_two b q.conclusion)))
+          (sym (sym (given_placed (on_body ds n u q (one_of_two b G)) place qs (sym e)) ∙ ap (λ Y. on_body ds n u q (one_of_two b Y)) is ∙ ap (on_body ds n u q) (none_of_two b q.conclusion)))
 
   -- a guard on one of two programs
-  of_guard : (n : ℕ) (u : Bool) (b : Acts) (place : Place) (qs : List Sequent) → beside_answer n u b place q ≡ given qs → LeadTo ds q qs
+  of_guard : (n : ℕ) (u : Bool) (b : Acts) (place : Place) (qs : List Sequent) → beside_answer ds n u b place q ≡ given qs → LeadTo ds q qs
   of_guard n u b place qs e = by_front (has_module q.conclusion) refl
     where
       by_front : (m : Bool) → has_module q.conclusion ≡ m → LeadTo ds q qs
       by_front true h = beside_refused n u b place qs (g.rules.front q.conclusion h) e
       by_front false h =
           let w = g.rules.goal c q.conclusion t.conclusion h in
-          let k = g.loops.beside (declared ds) scope q t w.1 w.0.0 w.0.1 w.0.2 n u b place qs e in
+          let k = g.loops.beside ds scope q t w.1 w.0.0 w.0.1 w.0.2 n u b place qs e in
           record { typed = k.0; ends = λ h. (k.1 h).0; leads = λ h. (k.1 h).1 }
 
   of_programs : (b : Acts) (k : Transformation) (place : Place) (qs : List Sequent) → transformed ds b k place q ≡ given qs → LeadTo ds q qs

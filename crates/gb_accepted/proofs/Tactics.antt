@@ -15,6 +15,7 @@ use Rattle.gb_script.specs.Tree.{node, head_of, text_of, place_of}
 use Rattle.gb_limits.specs.Numbers.{number_of}
 use Rattle.gb_goal.specs.Answers.{Answer, ◌>>=◌, nowhere, placed_at}
 use Rattle.gb_goal.specs.Answers.Answer.{given, refused}
+use Rattle.gb_goal.specs.Scope.{Declarations}
 use Rattle.gb_smt_laws.proofs.Split.{each_left}
 use Rattle.gb_smt_laws.proofs.Used.{each_together}
 use Rattle.gb_names.proofs.Nodes.{said, said_is}
@@ -110,10 +111,10 @@ module _ (T H : Sequent → Type 0) where
   inside_keeps head.EitherPattern w k = k
   inside_keeps _ w k = λ qs rs t e. left qs rs t e
 
-  -- rules work on nodes of this kind, all of whose parts are of this kind
-  module _ (N : Node → Type 0) (f : Node → Stepping) (rules : (n : Node) → Each N n → KeepsEach (f n)) (done : (place : Place) → Each N (done_at place)) where
+  -- where these things are declared, rules work on nodes of this kind, all of whose parts are of this kind
+  module _ (ds : Declarations) (N : Node → Type 0) (f : Node → Stepping) (rules : (n : Node) → Each N n → KeepsEach (f n)) (done : (place : Place) → Each N (done_at place)) where
     abbrev rule : Head → List ℕ → List (Node × Working) → Place → Working
-    rule h x ws place = patterned f h (node h x (map (λ w. w.0) ws) place) (worked f h ws place)
+    rule h x ws place = patterned f h (node h x (map (λ w. w.0) ws) place) (worked ds f h ws place)
 
     -- a part of this kind, and that what it makes of goals keeps
     abbrev Part : Type 0
@@ -146,9 +147,9 @@ module _ (T H : Sequent → Type 0) where
         by_length true same e = gathered_keep [] qs (one_each (all_of ks) qs) rs tt (spread_answered ks qs t (eqb-true (length (all_of ks)) (length qs) same)) e
         by_length false same e = nothing_given Argument place rs e
 
-    introduced_keeps : (ks : List Part) → KeepsEach (introduced (parts ks))
+    introduced_keeps : (ks : List Part) → KeepsEach (introduced ds (parts ks))
     introduced_keeps ks q rs t e =
-        let a = given_bind (all_new q (map (λ x. x.0) (parts ks))) (λ (_ : Unit {0}). in_turn (all_of ks) (q ∷ [])) rs e in
+        let a = given_bind (all_new ds q (map (λ x. x.0) (parts ks))) (λ (_ : Unit {0}). in_turn (all_of ks) (q ∷ [])) rs e in
         turn_keeps ks (q ∷ []) rs (t, tt) a.2
 
     ruled_keeps : (h : Head) (r : Part) → KeepsEach (ruled f h (r.0, said rule r.0))
@@ -163,7 +164,7 @@ module _ (T H : Sequent → Type 0) where
         let x = ruled_keeps (head_of r.0) r q a.0 t a.1 in
         after (q ∷ []) a.0 rs x (i.2 a.0 rs x.typed a.2)
 
-    step_keeps : (h : Head) (ks : List Part) (place : Place) → KeepsEach (stepped_by f h (parts ks) place)
+    step_keeps : (h : Head) (ks : List Part) (place : Place) → KeepsEach (stepped_by ds f h (parts ks) place)
     step_keeps head.Tactic ks place = one_keeps (in_turn (all_of ks)) (turn_keeps ks)
     step_keeps head.Group (k ∷ []) place = one_keeps (said rule k.0) k.2
     step_keeps head.Try (k ∷ []) place = λ q rs t e. left_or (said rule k.0 (q ∷ [])) q rs t (λ ss h. one_keeps (said rule k.0) k.2 q ss t h) e
@@ -180,24 +181,24 @@ module _ (T H : Sequent → Type 0) where
     step_keeps head.BothPatterns ks place = one_keeps (in_turn (all_of ks)) (turn_keeps ks)
     step_keeps _ ks place = λ q rs t e. nothing_given Syntax place rs e
 
-    worked_keeps : (h : Head) (ks : List Part) (place : Place) → Keeps (worked f h (parts ks) place)
+    worked_keeps : (h : Head) (ks : List Part) (place : Place) → Keeps (worked ds f h (parts ks) place)
     worked_keeps head.Next (k ∷ []) place = k.2
     worked_keeps head.EitherPattern ks place = spread_keeps ks place
     worked_keeps head.Branches ks place = spread_keeps ks place
-    worked_keeps h ks place = each_keeps (stepped_by f h (parts ks) place) (step_keeps h ks place)
+    worked_keeps h ks place = each_keeps (stepped_by ds f h (parts ks) place) (step_keeps h ks place)
 
     part_keeps : (h : Head) (x : List ℕ) (ks : List Part) (place : Place) → Each N (node h x (map (λ w. w.0) (parts ks)) place) → Keeps (rule h x (parts ks) place)
     part_keeps h x ks place k = by_pattern (is_pattern h)
       where
         by_pattern : (b : Bool) →
-            Keeps (if b then on_each (λ q. fitted h (f (node h x (map (λ w. w.0) (parts ks)) place) q) >>= inside h (worked f h (parts ks) place)) else worked f h (parts ks) place)
+            Keeps (if b then on_each (λ q. fitted h (f (node h x (map (λ w. w.0) (parts ks)) place) q) >>= inside h (worked ds f h (parts ks) place)) else worked ds f h (parts ks) place)
         by_pattern true =
             let t = node h x (map (λ w. w.0) (parts ks)) place in
-            each_keeps (λ q. fitted h (f t q) >>= inside h (worked f h (parts ks) place))
+            each_keeps (λ q. fitted h (f t q) >>= inside h (worked ds f h (parts ks) place))
             (λ q rs typed e.
-            let a = given_bind (fitted h (f t q)) (inside h (worked f h (parts ks) place)) rs e in
+            let a = given_bind (fitted h (f t q)) (inside h (worked ds f h (parts ks) place)) rs e in
             let y = rules t k q a.0 typed (fitted_given h (f t q) a.0 a.1) in
-            after (q ∷ []) a.0 rs y (inside_keeps h (worked f h (parts ks) place) (worked_keeps h ks place) a.0 rs y.typed a.2))
+            after (q ∷ []) a.0 rs y (inside_keeps h (worked ds f h (parts ks) place) (worked_keeps h ks place) a.0 rs y.typed a.2))
         by_pattern false = worked_keeps h ks place
 
     mutual
@@ -213,7 +214,7 @@ module _ (T H : Sequent → Type 0) where
       known (more {x = n} k ks) = let p = known ks in ((n, k, node_keeps k) ∷ p.0, ap (λ z. (n, said rule n) ∷ z) p.1, ap (λ z. n ∷ z) p.2)
 
     -- a step of such nodes keeps
-    pub tactic_keeps : (n : Node) → Each N n → Keeps (works f n)
+    pub tactic_keeps : (n : Node) → Each N n → Keeps (works ds f n)
     unfolding works
     tactic_keeps n k = node_keeps k
 

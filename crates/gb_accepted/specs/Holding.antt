@@ -6,6 +6,7 @@ use Rattle.gb_goal.specs.declared.scope.Entry.{Entry}
 use Rattle.gb_goal.specs.declared.scope.Entry.TheVariants as entry
 use Rattle.gb_goal.specs.declared.sequent.Sequent.{Sequent}
 use Rattle.gb_terms.specs.declared.decl.TypedName.{TypedName}
+use Rattle.gb_terms.specs.declared.module.Bind.{Bind}
 use Rattle.gb_terms.specs.declared.module.ProcRef.{ProcRef}
 use Rattle.gb_terms.specs.declared.term.Term.{Term}
 use Rattle.gb_meaning.specs.Names.{Name}
@@ -33,11 +34,12 @@ pub record IsProved (l : Lemma) : Type 0 where
   pub holds : LemmaHolds l
 
 -- What a lemma promises: the declarations before it have a model, so that it doesn't hold for want of one; and where it is an
--- equivalence of two procedures, there are couplings of their outputs, in each model, for all values of its variables, and from all
--- related memories.
+-- equivalence of two procedures, there are couplings of their outputs, in each model, for all programs within the modules that it binds
+-- and all values of its variables, and from all related memories.
 pub record IsPromise (l : Lemma) : Type 0 where
   pub model : HasModel l.before
-  pub coupled : (xs : List TypedName) (ms : List Name) (f h : ProcRef) (P Q : Term) → l.statement ≡ stated xs ms (equivalence f h P Q) → AreCoupledInEachModel l.before xs f h P Q
+  pub coupled : (xs : List TypedName) (ms : List Name) (bs : List Bind) (f h : ProcRef) (P Q : Term) →
+      l.statement ≡ stated xs ms bs (equivalence f h P Q) → AreCoupledInEachModel l.before xs bs f h P Q
 
 -- what is declared under a name, after other declarations, and further lemmas
 abbrev pub with_entry : Declarations → Name → Entry → List Lemma → List Lemma

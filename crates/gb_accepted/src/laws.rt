@@ -12,6 +12,7 @@ use gb_closing_laws::linear_laws::linear_is_sound;
 use gb_closing_laws::smt_laws::sound_smt;
 use gb_elab_laws::declaration_laws::{entries, lemmas, modules, statements};
 use gb_elab_laws::step_laws::{typed_forms, typed_rules};
+use gb_holds::truth_laws::declared_modules;
 use gb_models::promise_laws::{equivalences_give_couplings, typed_scopes_have_models};
 use gb_models::stay_laws::{goals_stay, goals_stay_typed, parts_of_scopes};
 use gb_typing::goal_laws::{fronts, typing};
@@ -19,8 +20,9 @@ use gb_typing::rule_laws::{contexts, sequents};
 
 /// Where a script comes to a session, and to no refusal, the scope of the session is typed, so that each name is
 /// declared once; it is sound; and the lemmas that the session names are those of the scope, in their order, each of
-/// which is typed and holds over the declarations before it. These have a model; and an equivalence of two procedures gives,
-/// in each model and from each two related memories, a coupling of both outputs, with its marginals compared at each output.
+/// which is typed and holds over the declarations before it, for all programs within the abstract modules that it binds. These declarations
+/// have a model; and an equivalence of two procedures gives, in each model, for all such programs, and from each two related memories, a
+/// coupling of both outputs, with its marginals compared at each output.
 /// The procedures of the scope call declared ones alone. Each loop that a procedure of ended modules reaches is good in each model, and the
 /// footprint of a module expression that lacks nothing, as it is computed, is that of the meaning.
 pub fn accepted_scripts()
@@ -80,5 +82,6 @@ pub fn accepted_scripts()
     equivalences_give_couplings();
     goals_stay();
     goals_stay_typed();
+    declared_modules();
     parts_of_scopes();
 }

@@ -27,7 +27,8 @@ use Rattle.gb_meaning.specs.State.{State, at, between}
 use Rattle.gb_meaning.specs.Written.{type_of}
 use Rattle.gb_meaning.proofs.Runs.{run_positive}
 use Rattle.gb_laws.specs.Plain.{IsPlain}
-use Rattle.gb_holds.specs.Declared.{Declarations}
+use Rattle.gb_goal.specs.Scope.{Declarations as Scope}
+use Rattle.gb_holds.specs.Declared.{Declarations, declared}
 use Rattle.gb_holds.specs.Holds.{AreTrue, AreValues, Holds, context}
 use Rattle.gb_holds.specs.Settings.{Interpretation, setting, types_of}
 use Rattle.gb_holds.specs.Truth.{Truth}
@@ -277,9 +278,9 @@ module _ (ds : Declarations) (scope : IsTypedScope ds) (q : Sequent) (t : IsType
   places : SequentEnds ds q → InEachSequent ds q IsPlace
   places h = joined ds q (λ i. IsSettingOf c (setting ds i)) Ending IsPlace (λ i x y. record { fits = x; ends = y }) (each_setting ds scope q t.modules t.frames) h
 
-  module _ (truth : type_of q.conclusion ≡ ty.Bool) (L R : List TypedName) where
+  module _ (truth : type_of q.conclusion ≡ ty.Bool) (L R : List TypedName) (all : Scope) where
     abbrev name : List ℕ
-    name = memory_name q
+    name = memory_name all q
 
     -- the first subgoal, another goal, and the goal from which they are
     module _ (one : Goal) (T O : List TypedName) (one_typed : IsGoalOver (wide O) T [] one) (judges : IsJudgment one) (two goal : Goal) (two_typed : IsGoalOver c L R two) (judges_two : IsJudgment two)
@@ -344,13 +345,13 @@ module _ (ds : Declarations) (scope : IsTypedScope ds) (q : Sequent) (t : IsType
 
     -- What the row gives.
 
-    by_place : (n : ℕ) (u : Bool) (o : OneBody) (qs : List Sequent) → at_place n u q o ≡ given qs →
-        ((k : At) → whole k ≡ o.list → (d : Decision) → Decides c u k.statement d → Leads (known_beside u q o k d ∷ concluding q (o.goal (k.before ++ (d.left ++ k.rest)) o.pre o.post) ∷ [])) → Leads qs
+    by_place : (n : ℕ) (u : Bool) (o : OneBody) (qs : List Sequent) → at_place all n u q o ≡ given qs →
+        ((k : At) → whole k ≡ o.list → (d : Decision) → Decides c u k.statement d → Leads (known_beside all u q o k d ∷ concluding q (o.goal (k.before ++ (d.left ++ k.rest)) o.pre o.post) ∷ [])) → Leads qs
     by_place n u o qs e make =
-        let z = place_given (λ k. by_decision u q o k (decision u k.statement (out-Instr k.statement))) (statement_at n o.list) qs e in
+        let z = place_given (λ k. by_decision all u q o k (decision u k.statement (out-Instr k.statement))) (statement_at n o.list) qs e in
         decided z.0 (placed n o.list z.0 z.1) (decision u (let k = z.0 in k.statement) (out-Instr (let k = z.0 in k.statement))) refl z.2
       where
-        decided : (k : At) → whole k ≡ o.list → (r : Option Decision) → decision u k.statement (out-Instr k.statement) ≡ r → by_decision u q o k r ≡ given qs → Leads qs
+        decided : (k : At) → whole k ≡ o.list → (r : Option Decision) → decision u k.statement (out-Instr k.statement) ≡ r → by_decision all u q o k r ≡ given qs → Leads qs
         decided k is None h e = refused_given Shape qs e
         decided k is (Some d) h e = subst Leads (same_given _ qs e) (make k is d (decided_by c k.statement u d h))
 
@@ -360,17 +361,17 @@ module _ (ds : Declarations) (scope : IsTypedScope ds) (q : Sequent) (t : IsType
     abbrev right_body : List Instr → List Instr → Term → Term → OneBody
     right_body is js p f = record { side = side.Right; list = is; pre = p; post = f; goal = λ is p q. equiv (body js) (body is) p q }
 
-    by_goal : (n : ℕ) (u : Bool) (a : Acts) (G : Goal) → goal_of q.conclusion ≡ G → IsGoalOver c L R G → (qs : List Sequent) → on_body n u q (one_of_two a G) ≡ given qs → Leads qs
+    by_goal : (n : ℕ) (u : Bool) (a : Acts) (G : Goal) → goal_of q.conclusion ≡ G → IsGoalOver c L R G → (qs : List Sequent) → on_body all n u q (one_of_two a G) ≡ given qs → Leads qs
     by_goal n u on.Left (equiv (body is) (body js) p f) h w qs e = by_speaks (speaks p) refl e
       where
-        by_speaks : (b : Bool) → speaks p ≡ b → (if b then refusing Shape else at_place n u q (left_body is js p f)) ≡ given qs → Leads qs
+        by_speaks : (b : Bool) → speaks p ≡ b → (if b then refusing Shape else at_place all n u q (left_body is js p f)) ≡ given qs → Leads qs
         by_speaks true s e = refused_given Shape qs e
         by_speaks false s e =
             by_place n u (left_body is js p f) qs e
             (λ k i d known. on_left u k d known js p f (plain_form p s) (h ∙ ap (λ is. equiv (body is) (body js) p f) (sym i)) (subst (λ is. IsGoalOver c L R (equiv (body is) (body js) p f)) (sym i) w))
     by_goal n u on.Right (equiv (body js) (body is) p f) h w qs e = by_speaks (speaks p) refl e
       where
-        by_speaks : (b : Bool) → speaks p ≡ b → (if b then refusing Shape else at_place n u q (right_body is js p f)) ≡ given qs → Leads qs
+        by_speaks : (b : Bool) → speaks p ≡ b → (if b then refusing Shape else at_place all n u q (right_body is js p f)) ≡ given qs → Leads qs
         by_speaks true s e = refused_given Shape qs e
         by_speaks false s e =
             by_place n u (right_body is js p f) qs e
@@ -392,12 +393,14 @@ unplaced place (given y) x e = e
 unplaced place (refused w p) x e = refused_at w _ x e
 
 -- The law.
-pub beside_leads : (ds : Declarations) → IsTypedScope ds → (q : Sequent) (t : IsTypedSequent (context_of ds) q) → type_of q.conclusion ≡ ty.Bool → (ls rs : List TypedName) →
-    IsGoalOver (of_sequent (context_of ds) q t.frames) ls rs (goal_of q.conclusion) → (n : ℕ) (u : Bool) (a : Acts) (place : Place) (qs : List Sequent) → beside_answer n u a place q ≡ given qs →
-    AllByRecursion (IsTypedSequent (context_of ds)) qs × (SequentEnds ds q → AllByRecursion (SequentEnds ds) qs × (AllByRecursion (Holds ds) qs → Holds ds q))
-beside_leads ds scope q t truth ls rs w n u a place qs e = by_test (goal_quantifies_modules q) e
+pub beside_leads : (ds : Scope) (typed : IsTypedScope (declared ds)) → (q : Sequent) (t : IsTypedSequent (context_of (declared ds)) q) → type_of q.conclusion ≡ ty.Bool → (ls rs : List TypedName) →
+    IsGoalOver (of_sequent (context_of (declared ds)) q t.frames) ls rs (goal_of q.conclusion) →
+    (n : ℕ) (u : Bool) (a : Acts) (place : Place) (qs : List Sequent) → beside_answer ds n u a place q ≡ given qs → Leads (declared ds) typed q t qs
+beside_leads ds typed q t truth ls rs w n u a place qs e = by_test (goal_quantifies_modules q) e
   where
-    by_test : (b : Bool) → (if b then refused Shape place else placed_at place (on_body n u q (one_of_two a (goal_of q.conclusion)))) ≡ given qs →
-        AllByRecursion (IsTypedSequent (context_of ds)) qs × (SequentEnds ds q → AllByRecursion (SequentEnds ds) qs × (AllByRecursion (Holds ds) qs → Holds ds q))
+    answer : Answer (List Sequent)
+    answer = on_body ds n u q (one_of_two a (goal_of q.conclusion))
+
+    by_test : (b : Bool) → (if b then refused Shape place else placed_at place answer) ≡ given qs → Leads (declared ds) typed q t qs
     by_test true e = refused_at Shape place qs e
-    by_test false e = by_goal ds scope q t truth ls rs n u a (goal_of q.conclusion) refl w qs (unplaced place (on_body n u q (one_of_two a (goal_of q.conclusion))) qs e)
+    by_test false e = by_goal (declared ds) typed q t truth ls rs ds n u a (goal_of q.conclusion) refl w qs (unplaced place answer qs e)

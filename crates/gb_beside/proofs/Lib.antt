@@ -1,2 +1,3 @@
 mod BesideIsSound
+mod BoundNames
 mod Seats

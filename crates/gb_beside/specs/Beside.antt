@@ -14,6 +14,9 @@ use Rattle.gb_goal.specs.Goal.{Goal, form_of, goal_of}
 use Rattle.gb_goal.specs.Goal.Code.{body}
 use Rattle.gb_goal.specs.Goal.Goal.{hoare}
 use Rattle.gb_goal.specs.Rows.{concluding, refusing}
+use Rattle.gb_goal.specs.Scope.{Declarations}
+use Rattle.gb_goal.specs.declared.scope.Entry.{Entry}
+use Rattle.gb_goal.specs.declared.scope.Entry.TheVariants as entry
 use Rattle.gb_goal.specs.declared.sequent.Sequent.{Sequent}
 use Rattle.gb_steps.specs.declared.step.Acts.{Acts}
 use Rattle.gb_steps.specs.declared.step.Acts.TheVariants as on
@@ -41,30 +44,44 @@ beside s i p = term_changed p (ToSide s side.Own ∷ ToSide (other s) (side.Memo
 abbrev pub unlike : List Name → Name → Name
 unlike ns x = primed (length ns) (is_among ns) x
 
--- the name of the memory that is added: names of the context and of the variables of the programs are others
-abbrev pub memory_name : Sequent → Name
-memory_name q = unlike (judgment_locals (out-Term q.conclusion).head (out-Term q.conclusion).args (context_names q)) (codes "m")
+-- the name of an abstract module, which the lemma of a goal binds
+abbrev pub bound_name : Option Entry → List Name
+bound_name (Some (entry.AbstractModule b)) = b.name ∷ []
+bound_name _ = []
+
+-- the names of the abstract modules that are declared
+abbrev pub bound_modules : Declarations → List Name
+bound_modules [] = []
+bound_modules (d ∷ ds) = bound_name (Some d.1) ++ bound_modules ds
+
+-- the names of a context, and of the modules that its lemma binds
+abbrev pub names_around : Declarations → Sequent → List Name
+names_around ds q = context_names q ++ bound_modules ds
+
+-- the name of the memory that is added: names of the context, of those modules and of the variables of the programs are others
+abbrev pub memory_name : Declarations → Sequent → Name
+memory_name ds q = unlike (judgment_locals (out-Term q.conclusion).head (out-Term q.conclusion).args (names_around ds q)) (codes "m")
 
 -- the guard is so after what stands before, from where the precondition holds beside the memory behind those of the context
 abbrev pub judged_beside : Bool → Sequent → OneBody → At → Term → Term
 judged_beside t q o k e = form_of (hoare (body k.before) (beside o.side (length q.memories) o.pre) (deciding t e))
 
 -- the same as a goal, with that memory
-abbrev pub known_beside : Bool → Sequent → OneBody → At → Decision → Sequent
-known_beside t q o k d = record q { memories = q.memories ++ memory_name q ∷ []; conclusion = judged_beside t q o k d.guard }
+abbrev pub known_beside : Declarations → Bool → Sequent → OneBody → At → Decision → Sequent
+known_beside ds t q o k d = record q { memories = q.memories ++ memory_name ds q ∷ []; conclusion = judged_beside t q o k d.guard }
 
 -- that, and the goal with what is left of the statement
-abbrev pub by_decision : Bool → Sequent → OneBody → At → Option Decision → Answer (List Sequent)
-by_decision t q o k None = refusing Shape
-by_decision t q o k (Some d) = given (known_beside t q o k d ∷ concluding q (o.goal (k.before ++ (d.left ++ k.rest)) o.pre o.post) ∷ [])
+abbrev pub by_decision : Declarations → Bool → Sequent → OneBody → At → Option Decision → Answer (List Sequent)
+by_decision ds t q o k None = refusing Shape
+by_decision ds t q o k (Some d) = given (known_beside ds t q o k d ∷ concluding q (o.goal (k.before ++ (d.left ++ k.rest)) o.pre o.post) ∷ [])
 
-abbrev pub at_place : ℕ → Bool → Sequent → OneBody → Answer (List Sequent)
-at_place n t q o = on_place (λ k. by_decision t q o k (decision t k.statement (out-Instr k.statement))) (statement_at n o.list)
+abbrev pub at_place : Declarations → ℕ → Bool → Sequent → OneBody → Answer (List Sequent)
+at_place ds n t q o = on_place (λ k. by_decision ds t q o k (decision t k.statement (out-Instr k.statement))) (statement_at n o.list)
 
 -- A program of which the precondition speaks would hide the memory that is its own one: this is refused.
-abbrev pub on_body : ℕ → Bool → Sequent → Option OneBody → Answer (List Sequent)
-on_body n t q None = refusing Shape
-on_body n t q (Some o) = if speaks o.pre then refusing Shape else at_place n t q o
+abbrev pub on_body : Declarations → ℕ → Bool → Sequent → Option OneBody → Answer (List Sequent)
+on_body ds n t q None = refusing Shape
+on_body ds n t q (Some o) = if speaks o.pre then refusing Shape else at_place ds n t q o
 
 -- one of two bodies
 abbrev pub one_of_two : Acts → Goal → Option OneBody
@@ -72,5 +89,5 @@ one_of_two on.All G = None
 one_of_two a G = one_body a G
 
 -- What the step answers at a place. (Beside a quantifier over modules it isn't built.)
-abbrev pub beside_answer : ℕ → Bool → Acts → Place → Sequent → Answer (List Sequent)
-beside_answer n t a place q = if goal_quantifies_modules q then refused Shape place else placed_at place (on_body n t q (one_of_two a (goal_of q.conclusion)))
+abbrev pub beside_answer : Declarations → ℕ → Bool → Acts → Place → Sequent → Answer (List Sequent)
+beside_answer ds n t a place q = if goal_quantifies_modules q then refused Shape place else placed_at place (on_body ds n t q (one_of_two a (goal_of q.conclusion)))

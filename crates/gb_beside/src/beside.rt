@@ -21,6 +21,7 @@ use gb_core::name::Name;
 use gb_core::place::Place;
 use gb_core::refusal::{Refused, Why};
 use gb_goal::goal::{Goal, goal_of};
+use gb_goal::scope::Scope;
 use gb_goal::sequent::{Sequent, Sequents};
 use gb_guards::decided::{Guarded, decision, goal_left, guard_judged};
 use gb_parts::one_body::{OneBody, one_body, side_of};
@@ -105,10 +106,15 @@ fn memories_with(alloc: Global, list: &[Name], name: Name) -> Result<SharedItems
 }
 
 /// The goal of this conclusion in the context with a memory more.
-fn with_memory(alloc: Global, goal: &Sequent, conclusion: Form) -> Result<Sequent, AllocError>
-    ensures { IfOk result (λ made. made ≡ record goal.now { memories = goal.now.memories ++ beside.memory_name goal.now ∷ []; conclusion = conclusion }) }
+fn with_memory(
+    alloc: Global,
+    scope: &Scope,
+    goal: &Sequent,
+    conclusion: Form,
+) -> Result<Sequent, AllocError>
+    ensures { IfOk result (λ made. made ≡ record goal.now { memories = goal.now.memories ++ beside.memory_name scope.now goal.now ∷ []; conclusion = conclusion }) }
 {
-    let name = memory_name(alloc, goal)?;
+    let name = memory_name(alloc, scope, goal)?;
     let memories = memories_with(alloc, goal.memories.as_slice(), name)?;
     let mut more = goal.with_conclusion(conclusion)?;
     more.memories = memories;
@@ -134,16 +140,17 @@ fn judged_beside(
 /// The goals where the guard of the statement at a place is as it is said.
 fn by_decision(
     alloc: Global,
+    scope: &Scope,
     goal: &Sequent,
     holds: bool,
     one: &OneBody<'_>,
     at: &Placed<'_>,
     known: &Guarded<'_>,
 ) -> Result<Sequents, AllocError>
-    ensures { IfOk result (λ made. given made ≡ (let k = placed_seen at.now in beside.by_decision holds goal.now (one_seen one.now) k (Some (decision_seen k.statement known.now)))) }
+    ensures { IfOk result (λ made. given made ≡ (let k = placed_seen at.now in beside.by_decision scope.now holds goal.now (one_seen one.now) k (Some (decision_seen k.statement known.now)))) }
 {
     let judged = judged_beside(alloc, goal, holds, one, at, known.guard)?;
-    let first = with_memory(alloc, goal, judged)?;
+    let first = with_memory(alloc, scope, goal, judged)?;
     let left = goal_left(alloc, one, at, known.left)?;
     let second = goal.with_conclusion(left)?;
     Ok(Items::from_vec(vec![in alloc; first, second]?))
@@ -152,12 +159,13 @@ fn by_decision(
 /// The same of a place that the body may not have, and of a statement that may have no guard.
 fn at_place(
     alloc: Global,
+    scope: &Scope,
     goal: &Sequent,
     at: u128,
     holds: bool,
     one: &OneBody<'_>,
 ) -> Result<Sequents, Refused>
-    ensures { Answers (beside.at_place at holds goal.now (one_seen one.now)) result }
+    ensures { Answers (beside.at_place scope.now at holds goal.now (one_seen one.now)) result }
 {
     let Some(found) = statement_at(at, one.list) else {
         return Err(refusal(Why::Argument));
@@ -165,7 +173,7 @@ fn at_place(
     let Some(known) = decision(holds, found.statement) else {
         return Err(no_shape());
     };
-    Ok(by_decision(alloc, goal, holds, one, &found, &known)?)
+    Ok(by_decision(alloc, scope, goal, holds, one, &found, &known)?)
 }
 
 /// One of two bodies.
@@ -181,12 +189,13 @@ fn one_of_two<'a>(acts: Acts, goal: Goal<'a>) -> Option<OneBody<'a>>
 /// The subgoals at a goal without quantifiers over modules, of which the precondition may speak of programs.
 fn on_one(
     alloc: Global,
+    scope: &Scope,
     goal: &Sequent,
     acts: Acts,
     at: u128,
     holds: bool,
 ) -> Result<Sequents, Refused>
-    ensures { Answers (beside.on_body at holds goal.now (beside.one_of_two acts (view.goal_of goal.now.conclusion))) result }
+    ensures { Answers (beside.on_body scope.now at holds goal.now (beside.one_of_two acts (view.goal_of goal.now.conclusion))) result }
 {
     let Some(one) = one_of_two(acts, goal_of(&goal.conclusion)) else {
         return Err(no_shape());
@@ -194,7 +203,7 @@ fn on_one(
     if speaks(one.pre) {
         return Err(no_shape());
     }
-    at_place(alloc, goal, at, holds, &one)
+    at_place(alloc, scope, goal, at, holds, &one)
 }
 
 /// The subgoals of `rcondt` and `rcondf` on one of two programs: the guard of the statement at a place is always true, or false, where it
@@ -208,10 +217,11 @@ pub fn apply(
     holds: bool,
     place: Place,
     goal: &Sequent,
+    scope: &Scope,
 ) -> Result<Sequents, Refused>
-    ensures { Answers (beside.beside_answer at holds acts place goal.now) result }
+    ensures { Answers (beside.beside_answer scope.now at holds acts place goal.now) result }
 {
     refuse_goal_modules(place, goal)?;
-    let made = on_one(alloc, goal, acts, at, holds);
+    let made = on_one(alloc, scope, goal, acts, at, holds);
     placed(made, place)
 }

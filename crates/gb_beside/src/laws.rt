@@ -7,7 +7,8 @@ ghost use Rattle.gb_core.specs.declared.ty.Ty.TheVariants as ty;
 ghost use Rattle.gb_goal.specs.Answers.Answer.{given};
 ghost use Rattle.gb_goal.specs.Goal.{goal_of};
 ghost use Rattle.gb_goal.specs.declared.sequent.Sequent.{Sequent};
-ghost use Rattle.gb_holds.specs.Declared.{Declarations};
+ghost use Rattle.gb_goal.specs.Scope as scope;
+ghost use Rattle.gb_holds.specs.Declared.{declared};
 ghost use Rattle.gb_holds.specs.Holds.{Holds};
 ghost use Rattle.gb_meaning.specs.Written.{type_of};
 ghost use Rattle.gb_prog.specs.Ends.{SequentEnds};
@@ -21,7 +22,9 @@ ghost use Rattle.gb_beside.specs.Beside.{beside_answer};
 /// Over a typed scope what the step gives of a typed sequent is typed, and its loops end where those of the sequent do; and where they hold
 /// then, so does the sequent.
 pub fn decided_beside()
-    ensures { (ds : Declarations) → IsTypedScope ds → (q : Sequent) (t : IsTypedSequent (context_of ds) q) → type_of q.conclusion ≡ ty.Bool → (ls rs : List TypedName) →
-        IsGoalOver (of_sequent (context_of ds) q t.frames) ls rs (goal_of q.conclusion) → (n : ℕ) (u : Bool) (a : Acts) (place : Place) (qs : List Sequent) → beside_answer n u a place q ≡ given qs →
-        AllByRecursion (IsTypedSequent (context_of ds)) qs × (SequentEnds ds q → AllByRecursion (SequentEnds ds) qs × (AllByRecursion (Holds ds) qs → Holds ds q)) }
+    ensures { (ds : scope.Declarations) → IsTypedScope (declared ds) → (q : Sequent) (t : IsTypedSequent (context_of (declared ds)) q) → type_of q.conclusion ≡ ty.Bool → (ls rs : List TypedName) →
+        IsGoalOver (of_sequent (context_of (declared ds)) q t.frames) ls rs (goal_of q.conclusion) →
+        (n : ℕ) (u : Bool) (a : Acts) (place : Place) (qs : List Sequent) → beside_answer ds n u a place q ≡ given qs →
+        AllByRecursion (IsTypedSequent (context_of (declared ds))) qs ×
+        (SequentEnds (declared ds) q → AllByRecursion (SequentEnds (declared ds)) qs × (AllByRecursion (Holds (declared ds)) qs → Holds (declared ds) q)) }
 {}

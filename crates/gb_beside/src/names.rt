@@ -1,11 +1,13 @@
 // The name of a memory that a rule adds.
 
 ghost use Rattle.std.specs.Prelude.{◌≡◌, ◌++◌, map, IfOk, OnOk};
+ghost use Rattle.std.specs.Option.{option_copied};
 ghost use Rattle.gb_shapes.specs.Names.{is_among};
 ghost use Rattle.gb_print_text.specs.Goals.{context_names, typed_names};
-ghost use Rattle.gb_beside.specs.Beside.{memory_name, unlike};
+ghost use Rattle.gb_beside.specs.Beside.{bound_modules, bound_name, memory_name, names_around, unlike};
 
 use gb_core::name::{Name, Names};
+use gb_goal::scope::{Entry, Scope};
 use gb_goal::sequent::{Hyp, Sequent};
 use gb_print_names::occurring::{names_inside, note_name};
 use gb_terms::decl::TypedName;
@@ -61,6 +63,35 @@ fn context_names(alloc: Global, goal: &Sequent) -> Result<Names, AllocError>
     Ok(names)
 }
 
+/// The name of an abstract module.
+fn note_bound(alloc: Global, names: &mut Names, entry: Option<&Entry>) -> Result<(), AllocError>
+    ensures { OnOk result (names.new ≡ names.old ++ bound_name (option_copied entry.entry)) }
+{
+    match entry {
+        Some(Entry::AbstractModule(bind)) => note_name(alloc, names, &bind.name),
+        _ => Ok(()),
+    }
+}
+
+/// The names of the modules that the lemma of a goal binds.
+fn note_bound_modules(alloc: Global, names: &mut Names, scope: &Scope) -> Result<(), AllocError>
+    ensures { OnOk result (names.new ≡ names.old ++ bound_modules scope.now) }
+{
+    for i in 0..scope.len() {
+        note_bound(alloc, names, scope.entry_at(i))?;
+    }
+    Ok(())
+}
+
+/// The names of a context, and of the modules that its lemma binds.
+fn names_around(alloc: Global, scope: &Scope, goal: &Sequent) -> Result<Names, AllocError>
+    ensures { IfOk result (λ names. names ≡ names_around scope.now goal.now) }
+{
+    let mut names = context_names(alloc, goal)?;
+    note_bound_modules(alloc, &mut names, scope)?;
+    Ok(names)
+}
+
 fn is_among(names: &[Name], name: &Name) -> bool
     ensures { result ≡ is_among names.now name.now }
 {
@@ -86,11 +117,11 @@ fn unlike(alloc: Global, taken: &[Name], name: Name) -> Result<Name, AllocError>
     Ok(name)
 }
 
-/// The name of the memory that is added: names of the context and of the variables of the programs are others.
-pub fn memory_name(alloc: Global, goal: &Sequent) -> Result<Name, AllocError>
-    ensures { IfOk result (λ made. made ≡ memory_name goal.now) }
+/// The name of the memory that is added: names of the context, of the modules that its lemma binds and of the variables of the programs are others.
+pub fn memory_name(alloc: Global, scope: &Scope, goal: &Sequent) -> Result<Name, AllocError>
+    ensures { IfOk result (λ made. made ≡ memory_name scope.now goal.now) }
 {
-    let around = context_names(alloc, goal)?;
+    let around = names_around(alloc, scope, goal)?;
     let conclusion = &goal.conclusion;
     let args = conclusion.args.as_slice();
     let taken = names_inside(alloc, conclusion.head.get(), args, around.as_slice())?;

@@ -58,7 +58,7 @@ module _ (ds : Declarations) (scoped : IsTypedScope (declared ds)) (q : Sequent)
   linked : (g : Setting) → IsSettingOver (declared ds) g → (r : ProcRef) (a : Proc) → procedure_of ds r ≡ Some a → g.procedure r ≡ Some (routine a.params a.locals (statements g a.body.list) a.value)
   linked g over r a e =
       subst (λ h. h.procedure r ≡ Some (routine a.params a.locals (statements h a.body.list) a.value)) (sym over.meant)
-      (linked_there ds scoped over.interpretation (let x = over.chosen in x.unchosen) r a e)
+      (linked_there ds scoped over.interpretation over.chosen r a e)
 
   module _ (outer : c ≡ outermost c) where
     -- One procedure.

@@ -39,7 +39,7 @@ use Rattle.gb_laws.specs.Programs.{Take}
 use Rattle.gb_holds.specs.Declared.{declared}
 use Rattle.gb_goal.specs.declared.sequent.Sequent.{Sequent}
 use Rattle.gb_goal.specs.Scope.{Declarations, module_of, procedure_of}
-use Rattle.gb_typing.specs.Context.{Context, erased, of_program, with_own}
+use Rattle.gb_typing.specs.Context.{Context, erased, of_program}
 use Rattle.gb_typing.specs.Context as context
 use Rattle.gb_typing.specs.Fits.{IsSettingOf}
 use Rattle.gb_typing.specs.Programs.{IsBody, IsCall, IsProcedure, locals_of, type_of_procedure}
@@ -144,7 +144,7 @@ module _ (ds : Declarations) (scoped : IsTypedScope (declared ds)) (t : Sequent)
   linked : (g : Setting) → IsSettingOver (declared ds) g → (r : ProcRef) (a : Proc) → procedure_of ds r ≡ Some a → g.procedure r ≡ Some (routine a.params a.locals (statements g a.body.list) a.value)
   linked g over r a e =
       subst (λ h. h.procedure r ≡ Some (routine a.params a.locals (statements h a.body.list) a.value)) (sym over.meant)
-      (linked_there ds scoped over.interpretation (let x = over.chosen in x.unchosen) r a e)
+      (linked_there ds scoped over.interpretation over.chosen r a e)
 
   -- globals with their types stand in the context
   pub typed_with : (xs : List Var) (W : List TypedVariable) → with_types ds xs ≡ Some W → (variables W ≡ xs) × AreIn (outermost c) (Some []) W

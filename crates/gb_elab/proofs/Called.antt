@@ -20,7 +20,7 @@ use Rattle.gb_names.proofs.Answers.{leads_on}
 use Rattle.gb_elab.specs.OneProcedure.{after_one}
 use Rattle.gb_elab.specs.Probability.{before_call, chance, chance_here}
 use Rattle.gb_names.specs.Names.{memory_at}
-use Rattle.gb_elab.specs.Forms.{Part, arguing, arguments_of, elaborated, last_arguments, listed, meant, probability, with_meanings}
+use Rattle.gb_elab.specs.Forms.{Part, arguing, arguments_of, elaborated, last_arguments, listed, probability, with_meanings}
 use Rattle.gb_elab.proofs.Elaborated.{arguments_of_is, length_meanings, meant_at, none_at}
 
 module _ (t : Node) (vs : List TypedName) (p : Place) (at : Environment) (bound : List Binding) where

@@ -299,7 +299,7 @@ module _ (ds : scope.Declarations) (scoped : IsTypedScope (declared ds)) (q : Se
   rule_forms text.CaseStep x (b ∷ f ∷ []) p k h =
       of_sides (acts (parts_of b)) f k h
   rule_forms text.HaveForm x (n ∷ f ∷ []) p k h =
-      let o = given_bind (new_name q (text_of n) (place_of n)) _ k h in
+      let o = given_bind (new_name ds q (text_of n) (place_of n)) _ k h in
       let z = given_bind (formed ds q f) (λ (t : Term). given (rule.Ambient (conclusion.Have (text_of n) t))) k o.2 in
       brings (conclusion.Have (text_of n) z.0) (form_typed f z.0 z.1) k (given_is (rule.Ambient (conclusion.Have (text_of n) z.0)) k z.2)
   rule_forms text.Transitivity x (b ∷ n ∷ []) p k h = of_transitive ds q HasForms (λ u. tt) tt (acts (parts_of b)) (head_of n) (parts_of n) p k h
@@ -318,7 +318,7 @@ module _ (ds : scope.Declarations) (scoped : IsTypedScope (declared ds)) (q : Se
       let z = given_bind (used ds q n) (λ (f : Term). given (rule.Use (use_rule.Apply f))) k h in
       by_use n z.0 z.1 (use_rule.Apply z.0) refl k (given_is (rule.Use (use_rule.Apply z.0)) k z.2)
   rule_forms text.HaveLemma x (m ∷ n ∷ []) p k h =
-      let o = given_bind (new_name q (text_of m) (place_of m)) _ k h in
+      let o = given_bind (new_name ds q (text_of m) (place_of m)) _ k h in
       let z = given_bind (used ds q n) (λ (f : Term). given (rule.Use (use_rule.Have (text_of m) f))) k o.2 in
       by_use n z.0 z.1 (use_rule.Have (text_of m) z.0) refl k (given_is (rule.Use (use_rule.Have (text_of m) z.0)) k z.2)
   rule_forms text.RewriteLemma x (n ∷ []) p k h =

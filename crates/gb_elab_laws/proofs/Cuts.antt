@@ -260,14 +260,14 @@ module _ (ds : scope.Declarations) (scoped : IsTypedScope (declared ds)) (q : Se
     of_rule text.CaseStep x (b ∷ f ∷ []) p k h =
         sides_typed (acts (parts_of b)) f k h
     of_rule text.HaveForm x (n ∷ f ∷ []) p k h =
-        let o = given_bind (new_name q (text_of n) (place_of n)) _ k h in
+        let o = given_bind (new_name ds q (text_of n) (place_of n)) _ k h in
         let z = given_bind (formed ds q f) (λ (t : Term). given (rule.Ambient (conclusion.Have (text_of n) t))) k o.2 in
         subst TypedAt (given_is (rule.Ambient (conclusion.Have (text_of n) z.0)) k z.2) tt
     of_rule text.ApplyLemma x (n ∷ []) p k h =
         let z = given_bind (used ds q n) (λ (f : Term). given (rule.Use (use_rule.Apply f))) k h in
         subst TypedAt (given_is (rule.Use (use_rule.Apply z.0)) k z.2) tt
     of_rule text.HaveLemma x (m ∷ n ∷ []) p k h =
-        let o = given_bind (new_name q (text_of m) (place_of m)) _ k h in
+        let o = given_bind (new_name ds q (text_of m) (place_of m)) _ k h in
         let z = given_bind (used ds q n) (λ (f : Term). given (rule.Use (use_rule.Have (text_of m) f))) k o.2 in
         subst TypedAt (given_is (rule.Use (use_rule.Have (text_of m) z.0)) k z.2) tt
     of_rule text.RewriteLemma x (n ∷ []) p k h =

@@ -33,7 +33,7 @@ use Rattle.gb_elab_laws.proofs.Scopes.{typed_after}
 use Rattle.gb_elab_laws.proofs.Types.{spelled_typed}
 use Rattle.gb_elab_laws.proofs.Declared.{declared_in}
 use Rattle.gb_typing.specs.Naming.{NoName}
-use Rattle.gb_models.specs.Speaking.{ScopeSpeaks}
+use Rattle.gb_models.specs.Speaking.{IsFirmScope, ScopeSpeaks}
 use Rattle.gb_elab_laws.specs.Fitting.{AreTypes}
 
 -- an abstract type, a name of a type of values, or a constant
@@ -55,10 +55,24 @@ good_speaks ((k, entry.Type t) ∷ ds) g = (tt, good_speaks ds g.1)
 good_speaks ((k, entry.Constant a) ∷ ds) g = (tt, good_speaks ds g.1)
 good_speaks ((k, entry.Module m) ∷ ds) g = absurd g.0
 good_speaks ((k, entry.ModuleType y) ∷ ds) g = absurd g.0
+good_speaks ((k, entry.AbstractModule y) ∷ ds) g = absurd g.0
 good_speaks ((k, entry.Lemma q order) ∷ ds) g = absurd g.0
 good_speaks ((k, entry.Operator o) ∷ ds) g = absurd g.0
 good_speaks ((k, entry.AbstractOperator o) ∷ ds) g = absurd g.0
 good_speaks ((k, entry.Terminating p) ∷ ds) g = absurd g.0
+
+good_firm : (ds : scope.Declarations) → AreGood ds → IsFirmScope ds
+good_firm [] g = tt
+good_firm ((k, entry.AbstractType) ∷ ds) g = (tt, good_firm ds g.1)
+good_firm ((k, entry.Type t) ∷ ds) g = (tt, good_firm ds g.1)
+good_firm ((k, entry.Constant a) ∷ ds) g = (tt, good_firm ds g.1)
+good_firm ((k, entry.Module m) ∷ ds) g = absurd g.0
+good_firm ((k, entry.ModuleType y) ∷ ds) g = absurd g.0
+good_firm ((k, entry.AbstractModule y) ∷ ds) g = absurd g.0
+good_firm ((k, entry.Lemma q order) ∷ ds) g = absurd g.0
+good_firm ((k, entry.Operator o) ∷ ds) g = absurd g.0
+good_firm ((k, entry.AbstractOperator o) ∷ ds) g = absurd g.0
+good_firm ((k, entry.Terminating p) ∷ ds) g = absurd g.0
 
 good_behind : (ds : scope.Declarations) (n : Name) (e : Entry) → AreGood ds → IsGood e → AreGood (ds ++ (n, e) ∷ [])
 good_behind [] n e h k = (k, tt)
@@ -119,6 +133,7 @@ good_typed ds ((k, entry.Constant a) ∷ added) c n g = (
 )
 good_typed ds ((k, entry.Module m) ∷ added) c n g = absurd g.0
 good_typed ds ((k, entry.ModuleType y) ∷ added) c n g = absurd g.0
+good_typed ds ((k, entry.AbstractModule y) ∷ added) c n g = absurd g.0
 good_typed ds ((k, entry.Lemma q order) ∷ added) c n g = absurd g.0
 good_typed ds ((k, entry.Operator o) ∷ added) c n g = absurd g.0
 good_typed ds ((k, entry.AbstractOperator o) ∷ added) c n g = absurd g.0
@@ -160,6 +175,7 @@ operator_added ds x (entry.Lemma q order) f w = absurd w
 operator_added ds x (entry.Type t) f w = absurd w
 operator_added ds x entry.AbstractType f w = absurd w
 operator_added ds x (entry.ModuleType y) f w = absurd w
+operator_added ds x (entry.AbstractModule y) f w = absurd w
 operator_added ds x (entry.Constant a) f w = absurd w
 operator_added ds x (entry.Terminating a) f w = absurd w
 
@@ -171,8 +187,21 @@ operator_speaks c x (entry.Lemma q order) w = absurd w
 operator_speaks c x (entry.Type t) w = absurd w
 operator_speaks c x entry.AbstractType w = absurd w
 operator_speaks c x (entry.ModuleType y) w = absurd w
+operator_speaks c x (entry.AbstractModule y) w = absurd w
 operator_speaks c x (entry.Constant a) w = absurd w
 operator_speaks c x (entry.Terminating a) w = absurd w
+
+operator_firm : (c : Context) (x : Node) (e : Entry) → IsOperatorIn c e → IsFirmScope (only x e)
+operator_firm c x (entry.Operator o) w = (tt, tt)
+operator_firm c x (entry.AbstractOperator o) w = (tt, tt)
+operator_firm c x (entry.Module m) w = absurd w
+operator_firm c x (entry.Lemma q order) w = absurd w
+operator_firm c x (entry.Type t) w = absurd w
+operator_firm c x entry.AbstractType w = absurd w
+operator_firm c x (entry.ModuleType y) w = absurd w
+operator_firm c x (entry.AbstractModule y) w = absurd w
+operator_firm c x (entry.Constant a) w = absurd w
+operator_firm c x (entry.Terminating a) w = absurd w
 
 -- what stands for an operator claims nothing
 defined_other : (ds : scope.Declarations) (gs r : List Node) (t : Node) (e : Entry) → defined ds gs r t ≡ given e → is_claim e ≡ false
@@ -238,6 +267,24 @@ speaks_by_head ds s _ ps p all e = cc
 
 pub entries_speak : (ds : scope.Declarations) → IsTypedScope (declared ds) → (t : Node) (all : scope.Declarations) → entries_given ds t ≡ given all → ScopeSpeaks NoName (declared all)
 entries_speak ds s t all e = speaks_by_head ds s (head_of t) (parts_of t) (place_of t) all e
+
+-- and no abstract module is among it
+firm_by_head : (ds : scope.Declarations) → IsTypedScope (declared ds) → (h : Head) (ps : List Node) (p : Place) (all : scope.Declarations) → entries_by ds h ps p ≡ given all → IsFirmScope all
+firm_by_head ds s head.TypeDeclaration (x ∷ d ∷ []) p all e =
+    let a = given_bind (free ds x) _ all e in
+    let names = declared_in ds s in
+    good_firm all (types_good ds names.types x (head_of d) (parts_of d) (place_of d) all a.2)
+firm_by_head ds s head.OperatorDeclaration (x ∷ d ∷ []) p all e =
+    let a = given_bind (free ds x) _ all e in
+    let b = given_bind (operator_entry ds (head_of d) (parts_of d) (place_of d)) _ all a.2 in
+    subst IsFirmScope (given_is (only x b.0) all b.2)
+    (operator_firm (context_of (declared ds)) x b.0 (operator_typed ds (context_of (declared ds)) (declared_in ds s) (head_of d) (parts_of d) (place_of d) b.0 b.1))
+firm_by_head ds s head.ModuleType (x ∷ ps ∷ ts ∷ []) p all e =
+    let t = module_type_is ds x (parts_of ps) (parts_of ts) all e in subst IsFirmScope t.is (tt, tt)
+firm_by_head ds s _ ps p all e = cc
+
+pub entries_firm : (ds : scope.Declarations) → IsTypedScope (declared ds) → (t : Node) (all : scope.Declarations) → entries_given ds t ≡ given all → IsFirmScope all
+entries_firm ds s t all e = firm_by_head ds s (head_of t) (parts_of t) (place_of t) all e
 
 -- and no lemma
 others_by_head : (ds : scope.Declarations) (h : Head) (ps : List Node) (p : Place) (all : scope.Declarations) → entries_by ds h ps p ≡ given all → ClaimNothing all

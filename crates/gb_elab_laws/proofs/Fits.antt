@@ -1,43 +1,41 @@
 -- The contexts of statements, programs and functions fit their environments.
-use Rattle.std.proofs.Common.{◌≡◌, ℕ, zero, suc, ◌<◌, length, map, get_or, arith, Bool, true, false, if◌then◌else◌, List, [], ◌∷◌, ◌++◌, Option, Some, None, option_map, bytes_eq, refl, ap, sym, ◌∙◌, subst}
+use Rattle.std.proofs.Common.{◌≡◌, ℕ, zero, suc, ◌<◌, length, map, get_or, arith, Bool, true, false, if◌then◌else◌, List, [], ◌∷◌, Some, None, refl, ap, sym, ◌∙◌, subst}
 use Rattle.std.proofs.lemmas.Bool.{false≢true}
 use Rattle.gb_terms.specs.declared.decl.Module.{Module}
-use Rattle.gb_terms.specs.declared.decl.Proc.{Proc}
 use Rattle.gb_terms.specs.declared.decl.TypedName.{TypedName}
 use Rattle.gb_terms.specs.declared.module.Bind.{Bind}
 use Rattle.gb_terms.specs.declared.module.ProcRef.{ProcRef}
 use Rattle.gb_goal.specs.Scope as scope
 use Rattle.gb_goal.specs.Interfaces.{procedure_type}
-use Rattle.gb_goal.specs.Scope.{entry_of, as_module, module_of, procedure_of}
-use Rattle.gb_goal.proofs.Interfaces.{declared_type}
-use Rattle.gb_goal.specs.declared.scope.Entry.{Entry}
-use Rattle.gb_goal.specs.declared.scope.Entry.TheVariants as entry
+use Rattle.gb_goal.specs.Scope.{module_of}
 use Rattle.gb_goal.specs.declared.sequent.Sequent.{Sequent}
 use Rattle.gb_meaning.specs.Names.{Name}
 use Rattle.gb_meaning.specs.Written.{local_type}
-use Rattle.gb_holds.specs.Declared.{Declarations, declaration_of, declared, concrete_module}
+use Rattle.gb_holds.specs.Declared.{Declarations, declared}
 use Rattle.gb_typing.specs.Modules.{ProcedureType}
 use Rattle.gb_laws.specs.Typing.{binder, IsMemory}
 use Rattle.gb_laws.specs.Typing.Binder.{program as module_binder}
 use Rattle.gb_typing.specs.Context.{Context, erased, frame_of, of_program, procedure}
 use Rattle.gb_typing.specs.Typing.{IsFrame}
 use Rattle.gb_terms.specs.declared.op.Side.TheVariants as side
-use Rattle.gb_typing.specs.Programs.{HaveVariableTypes, type_of_procedure}
+use Rattle.gb_typing.specs.Programs.{HaveVariableTypes}
 use Rattle.gb_typing.specs.Formulas.{with_module}
 use Rattle.gb_typing.specs.Sequents.{one, of_sequent, two, with_modules, AreBinders, IsTypedSequent}
-use Rattle.gb_typing.specs.Scopes.{nothing, with_declared, with_each, context_of, AreProcedures, AreTypedAfter, IsTypedScope}
-use Rattle.gb_typing.proofs.Operators.{declared_last}
-use Rattle.gb_typing.proofs.Located.{typed_there}
+use Rattle.gb_typing.specs.Scopes.{context_of, IsTypedScope}
+use Rattle.gb_typing.proofs.Agreed.{procedure_agrees}
+use Rattle.gb_typing.proofs.DeclaredTypes.{goal_types}
+use Rattle.gb_typing.proofs.Growing.{goal_keeps}
 use Rattle.gb_typing.proofs.Lifted.{sequent_outermost}
+use Rattle.gb_typing.proofs.Located.{known_there}
 use Rattle.gb_names.specs.declared.bindings.Binding.{Binding}
 use Rattle.gb_names.specs.Environment.{Environment, Memories, ambient, of_function, program, reading, relational, statement, unary}
 use Rattle.gb_names.specs.Environment.Memories.{outside}
 use Rattle.gb_elab_prog.specs.Contexts.{nothing_around}
 use Rattle.gb_elab_laws.specs.Fitting.{AllFiniteWith, AreBound, AreDeclared, AreIn, HasGlobals, IsTypeOf, IsFitting}
-use Rattle.gb_elab_laws.proofs.Given.{none_some, same_some}
+use Rattle.gb_elab_laws.proofs.Given.{none_some}
 use Rattle.gb_elab_laws.proofs.Declared.{goal_declared}
-use Rattle.gb_elab_laws.proofs.ModuleNames.{stays}
-use Rattle.gb_elab_laws.proofs.Quantified.{have_front, variables_with}
+use Rattle.gb_elab_laws.proofs.KnownProcedures.{module_stands, procedure_variable}
+use Rattle.gb_elab_laws.proofs.Quantified.{variables_with}
 use Rattle.gb_names.specs.Locals.{first_some, goal_read_type, read_type, reads_local}
 use Rattle.gb_names.proofs.ReadTypes.{read_type_out}
 use Rattle.gb_terms.specs.Make.{truth_literal}
@@ -45,63 +43,18 @@ use Rattle.gb_terms.specs.declared.term.Head.TheViews.{out-roll-Term}
 use Rattle.gb_elab_laws.proofs.Recalled.{goal_stands}
 use Rattle.gb_elab_laws.proofs.Found.{all_with, found as found_name}
 
--- A declared module stands under its name with its globals, and its procedures are typed.
-pub record Stands (d : Context) (n : Name) (m : Module) : Type 0 where
-  pub context : Context
-  pub procedures : AreProcedures context m [] m.procs
-  globals : (x : Name) → d.global n x ≡ local_type m.globals x
-  types : HaveVariableTypes m.globals
-
-stands : (ds : scope.Declarations) (before : Declarations) (c : Context) → AreTypedAfter c before (declared ds) → (n : Name) (m : Module) → entry_of ds n ≡ Some (entry.Module m) →
-    Stands (with_each c (declared ds)) n m
-stands [] before c w n m e = none_some (entry.Module m) e
-stands ((k, d) ∷ ds) before c w n m e = step (bytes_eq n k) refl (stands ds (before ++ (k, declaration_of d) ∷ []) (with_declared c k (declaration_of d)) w.2 n m) e
-  where
-    here : bytes_eq n k ≡ true → (x : Entry) → AreTypedAfter c before ((k, declaration_of x) ∷ declared ds) → x ≡ entry.Module m →
-        Stands (with_each (with_declared c k (declaration_of x)) (declared ds)) n m
-    here i (entry.Module r) v h =
-        let s : r ≡ m = (let f : entry.Module r ≡ entry.Module m = h in cc) in
-        let rest = stays ds (before ++ (k, concrete_module r) ∷ []) (with_declared c k (concrete_module r)) n (declared_last before (k, concrete_module r) n i) v.2 in
-        subst (Stands (with_each (with_declared c k (concrete_module r)) (declared ds)) n) s (record {
-          context = c;
-          procedures = v.1.procs;
-          globals = λ x. rest.globals x ∙ ap (λ (b : Bool). if b then local_type r.globals x else c.global n x) i;
-          types = v.1.globals;
-        })
-    here i _ v h = cc
-
-    step : (b : Bool) → bytes_eq n k ≡ b → (entry_of ds n ≡ Some (entry.Module m) → Stands (with_each (with_declared c k (declaration_of d)) (declared ds)) n m) →
-        (if b then Some d else entry_of ds n) ≡ Some (entry.Module m) → Stands (with_each (with_declared c k (declaration_of d)) (declared ds)) n m
-    step true i f h = here i d w (same_some d (entry.Module m) h)
-    step false i f h = f h
-
-module_entry : (ds : scope.Declarations) (n : Name) (m : Module) → module_of ds n ≡ Some m → entry_of ds n ≡ Some (entry.Module m)
-module_entry ds n m e = step (entry_of ds n) refl e
-  where
-    step : (o : Option Entry) → entry_of ds n ≡ o → as_module o ≡ Some m → entry_of ds n ≡ Some (entry.Module m)
-    step (Some (entry.Module r)) i h = i ∙ ap (λ z. Some (entry.Module z)) (same_some r m h)
-    step _ i h = none_some m h
-
-pub module_stands : (ds : scope.Declarations) → IsTypedScope (declared ds) → (n : Name) (m : Module) → module_of ds n ≡ Some m → Stands (context_of (declared ds)) n m
-module_stands ds w n m e = stands ds [] nothing w n m (module_entry ds n m e)
-
--- what is known of a procedure by declarations is the type of a declared one
-of_declared : (ds : scope.Declarations) (r : ProcRef) (t : ProcedureType) → procedure_type ds None r ≡ Some t → (p : Proc) × (procedure_of ds r ≡ Some p) × (type_of_procedure p ≡ t)
-of_declared ds r t e = step (procedure_of ds r) refl
-  where
-    step : (o : Option Proc) → procedure_of ds r ≡ o → (p : Proc) × (procedure_of ds r ≡ Some p) × (type_of_procedure p ≡ t)
-    step None h = none_some t (sym (declared_type ds r ∙ ap (option_map type_of_procedure) h) ∙ e)
-    step (Some p) h = (p, h, same_some (type_of_procedure p) t (sym (declared_type ds r ∙ ap (option_map type_of_procedure) h) ∙ e))
-
 -- a procedure that is known by declarations has its type in the context of a goal
 known_in_goal : (ds : scope.Declarations) → IsTypedScope (declared ds) → (q : Sequent) → AreBinders (context_of (declared ds)) q.modules → (fs : List (List TypedName)) (r : ProcRef) (t : ProcedureType) →
     procedure_type ds None r ≡ Some t → IsTypeOf (procedure (of_sequent (context_of (declared ds)) q fs) r) t
 known_in_goal ds w q b fs r t e =
-    let d = of_declared ds r t e in
-    let k = typed_there ds w q b fs r d.0 d.1 in
-    let body = k.typed in
-    subst (IsTypeOf (procedure (of_sequent (context_of (declared ds)) q fs) r)) d.2
-    (record { there = k.type; params = have_front d.0.params d.0.locals body.body.locals; result = body.result })
+    let c = of_sequent (context_of (declared ds)) q fs in
+    let types = goal_types ds w q fs in
+    let v = procedure_variable ds w None tt r t e in
+    record {
+      there = procedure_agrees ds None c.modules types (known_there ds w c (goal_keeps (context_of (declared ds)) q fs b) types) r t e;
+      params = v.0;
+      result = v.1;
+    }
 
 pub goal_procedure : (ds : scope.Declarations) → IsTypedScope (declared ds) → (q : Sequent) (t : IsTypedSequent (context_of (declared ds)) q) (r : ProcRef) (a : ProcedureType) →
     procedure_type ds None r ≡ Some a → IsTypeOf (procedure (of_sequent (context_of (declared ds)) q t.frames) r) a

@@ -27,6 +27,7 @@ pub mod Forms
 pub mod Parameters
 pub mod Recalled
 pub mod ModuleNames
+pub mod KnownProcedures
 pub mod Fits
 pub mod InnerModules
 pub mod Occurring
@@ -48,8 +49,9 @@ pub mod Taken
 pub mod Made
 pub mod Members
 pub mod Procedures
-pub mod Statements
 pub mod Scopes
+pub mod BoundModules
+pub mod Statements
 pub mod Bodies
 pub mod ModuleTypes
 pub mod Entries

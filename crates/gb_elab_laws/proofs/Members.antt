@@ -38,7 +38,8 @@ use Rattle.gb_elab_laws.proofs.Given.{given_bind, given_is, if_absent, if_refuse
 use Rattle.gb_elab_laws.proofs.Declared.{declared_in}
 use Rattle.gb_elab_laws.proofs.Fits.{declared_globals}
 use Rattle.gb_elab_laws.proofs.Found.{found}
-use Rattle.gb_elab_laws.proofs.InnerModules.{inside_typed, procedures_variable}
+use Rattle.gb_elab_laws.proofs.InnerModules.{inside_typed}
+use Rattle.gb_elab_laws.proofs.KnownProcedures.{procedures_variable}
 use Rattle.gb_elab_laws.proofs.Made.{module_made}
 use Rattle.gb_elab_laws.proofs.Taken.{empty_bare, parameters_bare, parameters_taken}
 use Rattle.gb_elab_laws.proofs.Programs.{have_both, procedure_typed}

@@ -1,5 +1,5 @@
 -- What the typing of module types gives is typed.
-use Rattle.std.proofs.Common.{◌≡◌, Bool, true, false, if◌then◌else◌, List, [], ◌∷◌, ◌++◌, Option, Some, None, is_some, bytes_eq, refl, ap, sym, ◌∙◌, subst}
+use Rattle.std.proofs.Common.{◌≡◌, Bool, true, false, if◌then◌else◌, List, [], ◌∷◌, ◌++◌, Option, Some, None, bytes_eq, refl, ap, sym, ◌∙◌, subst}
 use Rattle.std.specs.List.{list_any}
 use Rattle.gb_core.specs.declared.place.Place.{Place}
 use Rattle.gb_core.specs.declared.refusal.Why.TheVariants.{DoubleName, UnknownName}
@@ -7,7 +7,7 @@ use Rattle.gb_terms.specs.declared.decl.Param.{Param}
 use Rattle.gb_goal.specs.Answers.{given_or}
 use Rattle.gb_goal.specs.Answers.Answer.{given}
 use Rattle.gb_goal.specs.Interfaces.{params_in, signatures_of}
-use Rattle.gb_goal.specs.Scope.{Declarations, module_of, module_type_of}
+use Rattle.gb_goal.specs.Scope.{Declarations, entry_of, module_type_of}
 use Rattle.gb_goal.specs.declared.module_type.MayCall.{MayCall}
 use Rattle.gb_goal.specs.declared.module_type.MayCall.TheVariants.{Every, Those}
 use Rattle.gb_goal.specs.declared.module_type.ModuleType.{ModuleType}
@@ -29,14 +29,14 @@ use Rattle.gb_typing.specs.Programs.{HaveVariableTypes}
 use Rattle.gb_typing.specs.Scopes.{context_of, is_declared, with_param, AreParams, AreOracles, AreSignatures, IsModuleType, IsTypedScope}
 use Rattle.gb_typing.proofs.Globals.{name_test, or_false}
 use Rattle.gb_elab_stmt.specs.Targets.{spelled_by}
-use Rattle.gb_elab_prog.specs.Bound.{apart, parameter_name}
+use Rattle.gb_elab_prog.specs.Bound.{apart, is_module, parameter_name}
 use Rattle.gb_elab_prog.specs.Fresh.{free}
 use Rattle.gb_elab_prog.specs.ModuleTypes.{may_call, module_type_at, module_type_entries, oracle, oracles, param, parameter, parameters, signature, signatures, signatures_named, signed, unsigned, without_parameters}
 use Rattle.gb_elab_prog.specs.Procedures.{formals, result_type}
 use Rattle.gb_elab_prog.specs.Types.{only}
 use Rattle.gb_elab_laws.specs.Fitting.{AreTypes}
 use Rattle.gb_elab_laws.proofs.Declared.{declared_in}
-use Rattle.gb_elab_laws.proofs.Given.{given_bind, given_is, if_absent, if_refused, none_of, none_some, same_some, some_given}
+use Rattle.gb_elab_laws.proofs.Given.{given_bind, given_is, if_absent, if_refused, none_some, same_some, some_given}
 use Rattle.gb_elab_laws.proofs.Members.{free_is}
 use Rattle.gb_elab_laws.proofs.ModuleNames.{no_module, type_known}
 use Rattle.gb_elab_laws.proofs.Programs.{formals_typed, result_typed}
@@ -98,14 +98,14 @@ module _ (ds : Declarations) (scoped : IsTypedScope (declared ds)) where
       let u = given_bind (module_type_at ds t) _ rs o.2 in
       let k = given_bind (without_parameters u.0.params (place_of t)) _ rs u.2 in
       let own = if_refused (list_any (λ (q : Param). bytes_eq q.name (text_of x)) qs) (DoubleName (text_of x)) (place_of x) (apart ds x) o.0 o.1 in
-      let new = if_refused (is_some (module_of ds (text_of x))) (DoubleName (text_of x)) (place_of x) (given tt) o.0 own.1 in
+      let new = if_refused (is_module (entry_of ds (text_of x))) (DoubleName (text_of x)) (place_of x) (given tt) o.0 own.1 in
       let there : (with_all here qs).types (spelled_by t) ≡ Some u.0 =
       types_stay here qs (spelled_by t) ∙ type_known ds scoped (spelled_by t)
       ∙ some_given (module_type_of ds (spelled_by t)) (no_declared None ds (spelled_by t)) (place_of t) u.0 u.1 in
       let typed = subst (λ (z : Option ModuleType). IsKnown z × (params_in z ≡ [])) (sym there) (tt, none_lacking u.0.params (place_of t) k.0 k.1) in
       let q : Param = param x t in
       subst (AreParams here) (given_is (qs ++ q ∷ []) rs k.2)
-      (params_behind here qs q w (typed.0, typed.1, still_free here qs (text_of x) (no_module ds scoped (text_of x) (none_of (module_of ds (text_of x)) new.0)) own.0))
+      (params_behind here qs q w (typed.0, typed.1, still_free here qs (text_of x) (no_module ds scoped (text_of x) new.0) own.0))
   parameter_typed qs rs _ _ p w e = cc
 
   parameters_typed : (qs rs : List Param) (ts : List Node) → AreParams here qs → parameters ds qs ts ≡ given rs → AreParams here rs

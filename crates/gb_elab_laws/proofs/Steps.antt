@@ -111,7 +111,7 @@ module _ (ds : Declarations) (q : Sequent) (P : Rule → Type 0) (others : (k : 
   of_rule text.Inline x (b ∷ n ∷ []) p k h = of_inlining P (λ a t. others (rule.Transform a t) tt) ds q (acts (parts_of b)) (parts_of n) p k h
   of_rule text.CaseStep x (b ∷ f ∷ []) p k h = of_sides (acts (parts_of b)) f k h
   of_rule text.HaveForm x (n ∷ f ∷ []) p k h =
-      let o = given_bind (new_name q (text_of n) (place_of n)) _ k h in
+      let o = given_bind (new_name ds q (text_of n) (place_of n)) _ k h in
       let y = given_bind (formed ds q f) (λ (u : Term). given (rule.Ambient (conclusion.Have (text_of n) u))) k o.2 in other (rule.Ambient (conclusion.Have (text_of n) y.0)) k tt y.2
   of_rule text.Transitivity x (b ∷ n ∷ []) p k h = of_transitive ds q P (λ u. others (rule.Relational (relational_rule.Transitivity u)) tt) (others (rule.OnBodies on_bodies.Unfit) tt) (acts (parts_of b)) (head_of n) (parts_of n) p k h
   of_rule text.Rnd x (b ∷ fs) p k h = of_drawing (acts (parts_of b)) (functions_of fs) k h
@@ -126,7 +126,7 @@ module _ (ds : Declarations) (q : Sequent) (P : Rule → Type 0) (others : (k : 
   of_rule text.ApplyLemma x (n ∷ []) p k h =
       let y = given_bind (used ds q n) (λ (f : Term). given (rule.Use (use_rule.Apply f))) k h in other (rule.Use (use_rule.Apply y.0)) k tt y.2
   of_rule text.HaveLemma x (m ∷ n ∷ []) p k h =
-      let o = given_bind (new_name q (text_of m) (place_of m)) _ k h in
+      let o = given_bind (new_name ds q (text_of m) (place_of m)) _ k h in
       let y = given_bind (used ds q n) (λ (f : Term). given (rule.Use (use_rule.Have (text_of m) f))) k o.2 in other (rule.Use (use_rule.Have (text_of m) y.0)) k tt y.2
   of_rule text.RewriteLemma x (n ∷ []) p k h =
       let y = given_bind (used ds q n) (λ (f : Term). given (rule.Rewrite (rewrite_rule.Forward f))) k h in other (rule.Rewrite (rewrite_rule.Forward y.0)) k tt y.2

@@ -1,12 +1,12 @@
 -- The parameters of a module that is given have module types, and names under which no module is known.
-use Rattle.std.proofs.Common.{◌≡◌, Bool, false, ◌||◌, if◌then◌else◌, List, [], ◌∷◌, ◌++◌, Option, Some, None, is_some, bytes_eq, refl, ap, sym, ◌∙◌, subst}
+use Rattle.std.proofs.Common.{◌≡◌, Bool, false, ◌||◌, if◌then◌else◌, List, [], ◌∷◌, ◌++◌, Option, Some, None, bytes_eq, refl, ap, sym, ◌∙◌, subst}
 use Rattle.std.specs.List.{list_any}
 use Rattle.gb_core.specs.declared.place.Place.{Place}
 use Rattle.gb_core.specs.declared.refusal.Why.TheVariants.{DoubleName}
 use Rattle.gb_terms.specs.declared.decl.Module.{Module}
 use Rattle.gb_terms.specs.declared.decl.Param.{Param}
 use Rattle.gb_goal.specs.Answers.Answer.{given}
-use Rattle.gb_goal.specs.Scope.{Declarations, module_of, module_type_of}
+use Rattle.gb_goal.specs.Scope.{Declarations, entry_of, module_type_of}
 use Rattle.gb_goal.specs.declared.module_type.ModuleType.{ModuleType}
 use Rattle.gb_script.specs.declared.head.Head.{Head}
 use Rattle.gb_script.specs.declared.head.Head.TheVariants as head
@@ -19,10 +19,10 @@ use Rattle.gb_typing.specs.Formulas.{IsKnown}
 use Rattle.gb_typing.specs.Modules.{Interface, Modules, functor_type, of_functor_type, with_interface}
 use Rattle.gb_typing.specs.Scopes.{context_of, with_param, AreTaken, IsTypedScope}
 use Rattle.gb_typing.proofs.Globals.{name_test, or_false}
-use Rattle.gb_elab_prog.specs.Bound.{apart, is_own, parameter_name}
+use Rattle.gb_elab_prog.specs.Bound.{apart, is_module, is_own, parameter_name}
 use Rattle.gb_elab_prog.specs.ModuleTypes.{module_type_at, param}
 use Rattle.gb_elab_prog.specs.Modules.{empty_module, with_parameter, with_parameters}
-use Rattle.gb_elab_laws.proofs.Given.{given_bind, given_is, if_refused, none_of, some_given}
+use Rattle.gb_elab_laws.proofs.Given.{given_bind, given_is, if_refused, some_given}
 use Rattle.gb_elab_laws.proofs.ModuleNames.{no_module, type_known}
 
 -- the modules, and those of parameters
@@ -90,12 +90,12 @@ module _ (ds : Declarations) (scoped : IsTypedScope (declared ds)) (n : Name) (i
       let u = given_bind (module_type_at ds t) (λ (u : ModuleType). given (record k { params = k.params ++ param x t ∷ [] })) l o.2 in
       let free = if_refused (is_own (Some k.name) y || is_parameter k.params y) (DoubleName y) (place_of x) (apart ds x) o.0 o.1 in
       let own = or_false (bytes_eq y k.name) (list_any (λ (q : Param). bytes_eq q.name y) k.params) free.0 in
-      let new = if_refused (is_some (module_of ds y)) (DoubleName y) (place_of x) (given tt) o.0 free.1 in
+      let new = if_refused (is_module (entry_of ds y)) (DoubleName y) (place_of x) (given tt) o.0 free.1 in
       let there : (with_all around k.params).types (spelled_by t) ≡ Some u.0 =
       types_stay around k.params (spelled_by t) ∙ type_known ds scoped (spelled_by t)
       ∙ some_given (module_type_of ds (spelled_by t)) (no_declared None ds (spelled_by t)) (place_of t) u.0 u.1 in
       let unknown : around.interfaces y ≡ None =
-      ap (λ (b : Bool). if b then i else here.interfaces y) (ap (bytes_eq y) (sym name) ∙ own.0) ∙ no_module ds scoped y (none_of (module_of ds y) new.0) in
+      ap (λ (b : Bool). if b then i else here.interfaces y) (ap (bytes_eq y) (sym name) ∙ own.0) ∙ no_module ds scoped y new.0 in
       subst (λ (z : Module). (z.name ≡ n) × AreTaken around z.params) (given_is (record k { params = k.params ++ param x t ∷ [] }) l u.2) (
         name,
         taken_behind around k.params (param x t) w (subst IsKnown (sym there) tt, still_free around k.params y unknown own.1),

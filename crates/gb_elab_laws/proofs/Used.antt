@@ -11,6 +11,7 @@ use Rattle.gb_terms.specs.declared.term.Head.{Head}
 use Rattle.gb_terms.specs.declared.term.Head.TheVariants as head
 use Rattle.gb_terms.specs.Make.{node}
 use Rattle.gb_terms.specs.declared.decl.TypedName.{TypedName}
+use Rattle.gb_terms.specs.declared.module.Bind.{Bind}
 use Rattle.gb_terms.specs.declared.op.Side.{Side}
 use Rattle.gb_terms.specs.declared.op.Side.TheVariants as side
 use Rattle.gb_goal.specs.Answers.{◌>>=◌, given_or, not_built}
@@ -84,6 +85,7 @@ lemma_in ((k, d) ∷ es) x l e = by_name (bytes_eq x k) (lemma_in es x l) e
     further (entry.Type t) w = w
     further entry.AbstractType w = w
     further (entry.ModuleType y) w = w
+    further (entry.AbstractModule y) w = w
     further (entry.Constant c) w = w
     further (entry.Operator o) w = w
     further (entry.AbstractOperator o) w = w
@@ -238,15 +240,14 @@ module _ (ds : scope.Declarations) (scoped : IsTypedScope (declared ds)) (q : Se
   all_finite [] h = tt
   all_finite (v ∷ vs) h = (h.0, all_finite vs h.1)
 
-  -- a lemma about procedures is about values and memories
-  abbrev about_states : (l : Sequent) → IsTypedSequent (context_of (declared ds)) l → IsOfProcedures l → IsOfStates (declared ds) l
-  about_states l w p =
+  -- a lemma about procedures that binds no modules is about values and memories
+  abbrev about_states : (l : Sequent) → l.modules ≡ [] → IsTypedSequent (context_of (declared ds)) l → IsOfProcedures l → IsOfStates (declared ds) l
+  about_states l plain w p =
       let c = of_sequent (context_of (declared ds)) l w.frames in
       let formula = conclusion_formula c l.conclusion w.conclusion p.bodies in
-      let front = p.without in
-      let form : IsForm c l.conclusion = formula_form c l.conclusion formula front.conclusion in
+      let form : IsForm c l.conclusion = formula_form c l.conclusion formula p.front in
       record {
-        modules = front.modules;
+        modules = plain;
         hyps = p.hyps;
         values = all_finite l.logical w.logical;
         frames = w.frames;
@@ -276,11 +277,11 @@ module _ (ds : scope.Declarations) (scoped : IsTypedScope (declared ds)) (q : Se
   IsUsed f = IsForm here f × IsKnown (declared ds) q here f
 
   -- a lemma and its arguments, at a goal without modules
-  said_by_lemma : q.modules ≡ [] → (x : List ℕ) (l : Sequent) → lemma_of ds x ≡ Some l → IsTypedSequent (context_of (declared ds)) l → IsOfProcedures l →
+  said_by_lemma : q.modules ≡ [] → (x : List ℕ) (l : Sequent) → lemma_of ds x ≡ Some l → l.modules ≡ [] → IsTypedSequent (context_of (declared ds)) l → IsOfProcedures l →
       (ks : List Binder) (g : Term) → about_all ks l.logical l.memories 0 0 l.conclusion ≡ Some g → (es : List Node) (p : Place) (f : Term) → said_on ds q ks es p g ≡ given f → IsUsed f
-  said_by_lemma alone x l there w o ks g a es p f e =
+  said_by_lemma alone x l there plain w o ks g a es p f e =
       let k = if_refused (nat_lt (length es) (length ks)) Argument p _ f e in
-      let stated = about_states l w o in
+      let stated = about_states l plain w o in
       let all = binders_are ks l.logical l.memories w.frames w.memories 0 0 l.conclusion g a in
       let form = generalized_typed l stated alone ks all.0 in
       let s = said_of_each es (generalized ks l) f form (ap (λ z. said_of_all ds q z es) all.1 ∙ k.1) in
@@ -288,15 +289,16 @@ module _ (ds : scope.Declarations) (scoped : IsTypedScope (declared ds)) (q : Se
 
   module _ (lemmas : AreStated ds) (alone : q.modules ≡ []) where
     of_lemma : (x : List ℕ) (l : Sequent) → lemma_of ds x ≡ Some l → (ks : List Binder) (es : List Node) (p : Place) (f : Term) → said_by ds q ks l es p ≡ given f → IsUsed f
-    of_lemma x l there ks es p f e =
-        let w = lemmas x l there in
-        let front = w.1.without in
-        by_option (about_all ks l.logical l.memories 0 0 l.conclusion) refl
-        (subst (λ bs. without_bound bs (option_map_or (said_on ds q ks es p) (about_all ks l.logical l.memories 0 0 l.conclusion) (not_built p)) p ≡ given f) front.modules e)
+    of_lemma x l there ks es p f e = by_modules l.modules refl e
       where
-        by_option : (o : Option Term) → about_all ks l.logical l.memories 0 0 l.conclusion ≡ o → option_map_or (said_on ds q ks es p) o (not_built p) ≡ given f → IsUsed f
-        by_option None a e = cc
-        by_option (Some g) a e = let w = lemmas x l there in said_by_lemma alone x l there w.0 w.1 ks g a es p f e
+        by_option : l.modules ≡ [] → (o : Option Term) → about_all ks l.logical l.memories 0 0 l.conclusion ≡ o → option_map_or (said_on ds q ks es p) o (not_built p) ≡ given f → IsUsed f
+        by_option plain None a e = cc
+        by_option plain (Some g) a e = let w = lemmas x l there plain in said_by_lemma alone x l there plain w.0 w.1 ks g a es p f e
+
+        by_modules : (bs : List Bind) → l.modules ≡ bs →
+            without_bound bs (option_map_or (said_on ds q ks es p) (about_all ks l.logical l.memories 0 0 l.conclusion) (not_built p)) p ≡ given f → IsUsed f
+        by_modules [] plain e = by_option plain (about_all ks l.logical l.memories 0 0 l.conclusion) refl e
+        by_modules (b ∷ bs) plain e = cc
 
     of_name : (x : List ℕ) (es : List Node) (p : Place) (f : Term) → used_named ds q x es p ≡ given f → IsUsed f
     unfolding used_named

@@ -6,20 +6,21 @@ use Rattle.gb_goal.specs.declared.sequent.Sequent.{Sequent}
 use Rattle.gb_goal.specs.Scope as scope
 use Rattle.gb_goal.specs.Scope.{lemma_of}
 use Rattle.gb_holds.specs.Declared.{declared}
+use Rattle.gb_holds.specs.Truth.{has_module}
 use Rattle.gb_typing.specs.Naming.{NoName}
 use Rattle.gb_meaning.specs.Names.{Name}
 use Rattle.gb_typing.specs.Sequents.{IsTypedSequent}
 use Rattle.gb_typing.specs.Scopes.{context_of}
-use Rattle.gb_models.specs.Speaking.{GoalSpeaks, IsWithoutModules}
+use Rattle.gb_models.specs.Speaking.{GoalSpeaks}
 
--- A goal without hypotheses and without quantifiers over modules, whose conclusion is no judgment on bodies, and which speaks of no
--- module's globals together.
+-- A goal without hypotheses, whose conclusion is no judgment on bodies and quantifies over no module in front, and which speaks of no
+-- module's globals together. Its context may have modules.
 pub record IsOfProcedures (q : Sequent) : Type 0 where
   pub hyps : q.hyps ≡ []
   pub bodies : judges_bodies (out-Term q.conclusion).head ≡ false
   pub speaks : GoalSpeaks NoName q
-  pub without : IsWithoutModules q
+  pub front : has_module q.conclusion ≡ false
 
--- the lemmas of a scope state typed goals about procedures
+-- the lemmas of a scope that bind no modules state typed goals about procedures
 abbrev pub AreStated : scope.Declarations → Type 0
-AreStated ds = (n : Name) (q : Sequent) → lemma_of ds n ≡ Some q → IsTypedSequent (context_of (declared ds)) q × IsOfProcedures q
+AreStated ds = (n : Name) (q : Sequent) → lemma_of ds n ≡ Some q → q.modules ≡ [] → IsTypedSequent (context_of (declared ds)) q × IsOfProcedures q

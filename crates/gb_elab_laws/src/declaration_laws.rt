@@ -4,6 +4,7 @@ ghost use Rattle.std.specs.Prelude.{◌≡◌, false, List, [], ◌∷◌, ◌++
 ghost use Rattle.gb_core.specs.declared.ty.Ty.TheVariants as ty;
 ghost use Rattle.gb_terms.specs.declared.decl.Module.{Module};
 ghost use Rattle.gb_script.specs.declared.tree.Node.{Node};
+ghost use Rattle.gb_goal.specs.Binders.{binder_entries, with_declared_modules};
 ghost use Rattle.gb_goal.specs.Scope as scope;
 ghost use Rattle.gb_goal.specs.Scope.{ClaimNothing};
 ghost use Rattle.gb_goal.specs.declared.scope.Binder.{Binder};
@@ -14,7 +15,7 @@ ghost use Rattle.gb_meaning.specs.Names.{Name};
 ghost use Rattle.gb_meaning.specs.Written.{type_of};
 ghost use Rattle.gb_holds.specs.Declared.{concrete_module, declared};
 ghost use Rattle.gb_typing.specs.Naming.{NoName};
-ghost use Rattle.gb_models.specs.Speaking.{DeclarationSpeaks, ScopeSpeaks};
+ghost use Rattle.gb_models.specs.Speaking.{DeclarationSpeaks, IsFirmScope, ScopeSpeaks};
 ghost use Rattle.gb_elab_laws.specs.Procedures.{IsOfProcedures};
 ghost use Rattle.gb_holds.specs.Truth.{has_module};
 ghost use Rattle.gb_typing.specs.Sequents.{IsTypedSequent};
@@ -23,14 +24,16 @@ ghost use Rattle.gb_elab_prog.specs.Entries.{entries_given};
 ghost use Rattle.gb_elab_mod.specs.Lemmas.{lemma_name, statement_given};
 ghost use Rattle.gb_elab_prog.specs.Modules.{module_given};
 
-/// A typed scope stays typed with what a command `type`, `op` or `module type` declares, none of which is a lemma. It speaks of no module's
-/// globals together.
+/// A typed scope stays typed with what a command `type`, `op` or `module type` declares, none of which is a lemma or an abstract module. It
+/// speaks of no module's globals together.
 pub fn entries()
     ensures added { (ds : scope.Declarations) → IsTypedScope (declared ds) → (t : Node) (added : scope.Declarations) → entries_given ds t ≡ given added →
         IsTypedScope (declared (ds ++ added)) }
     ensures others { (ds : scope.Declarations) → (t : Node) (added : scope.Declarations) → entries_given ds t ≡ given added → ClaimNothing added }
     ensures speaks { (ds : scope.Declarations) → IsTypedScope (declared ds) → (t : Node) (added : scope.Declarations) → entries_given ds t ≡ given added →
         ScopeSpeaks NoName (declared added) }
+    ensures firm { (ds : scope.Declarations) → IsTypedScope (declared ds) → (t : Node) (added : scope.Declarations) → entries_given ds t ≡ given added →
+        IsFirmScope added }
 {}
 
 /// What a module is typed to in a typed scope is a well-typed module under a free name, with which the scope stays typed.
@@ -45,9 +48,14 @@ pub fn modules()
 
 /// In a typed scope, the goal that a lemma states is a typed goal, its conclusion is a truth in front of which no module is
 /// quantified, and the lemma's name is free. The goal has no hypotheses, judges no bodies, and speaks of no module's globals together.
+/// The modules that it binds may be declared behind the scope, which stays typed, and there it is a typed goal without them.
 pub fn statements()
     ensures typed { (ds : scope.Declarations) → IsTypedScope (declared ds) → (t : Node) (q : Sequent) → statement_given ds t ≡ given q →
         IsTypedSequent (context_of (declared ds)) q }
+    ensures scope { (ds : scope.Declarations) → IsTypedScope (declared ds) → (t : Node) (q : Sequent) → statement_given ds t ≡ given q →
+        IsTypedScope (declared (ds ++ binder_entries q.modules)) }
+    ensures goal { (ds : scope.Declarations) → IsTypedScope (declared ds) → (t : Node) (q : Sequent) → statement_given ds t ≡ given q →
+        IsTypedSequent (context_of (declared (ds ++ binder_entries q.modules))) (with_declared_modules q) }
     ensures truth { (ds : scope.Declarations) → IsTypedScope (declared ds) → (t : Node) (q : Sequent) → statement_given ds t ≡ given q →
         type_of q.conclusion ≡ ty.Bool }
     ensures front { (ds : scope.Declarations) → IsTypedScope (declared ds) → (t : Node) (q : Sequent) → statement_given ds t ≡ given q →

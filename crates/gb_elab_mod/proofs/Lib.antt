@@ -2,3 +2,4 @@ pub mod OtherLocals
 pub mod Found
 pub mod LastProcedures
 pub mod Betweens
+pub mod NewModules

@@ -15,7 +15,7 @@ use Rattle.gb_goal.specs.Answers.Answer.{given}
 use Rattle.gb_names.specs.Environment.{statement}
 use Rattle.gb_elab.specs.Forms.{elaborated}
 use Rattle.gb_elab_prog.specs.declared.context.Bound.{Bound}
-use Rattle.gb_elab_prog.specs.Contexts.{nothing_bound, all_bound, in_context, context_of}
+use Rattle.gb_elab_prog.specs.Contexts.{nothing_bound, all_bound, around, in_context, context_of}
 use Rattle.gb_elab_prog.specs.Fresh.{free}
 use Rattle.gb_elab_prog.specs.Sizes.{small}
 
@@ -27,7 +27,7 @@ name_in (x ∷ xs) = text_of x
 abbrev pub lemma_name : Node → List ℕ
 lemma_name t = name_in (parts_of t)
 
--- a form in the context of what is bound
+-- a form in the context of what is bound, where its modules are declared
 unfoldable pub claimed : Declarations → Bound → Node → Answer Sequent
 claimed ds b t = do
   f ← elaborated t (statement ds (context_of b)) [] (Some bool_ty)
@@ -39,7 +39,7 @@ unfoldable pub stated : Declarations → Node → List Node → Node → Answer 
 stated ds x bs t = do
   _ ← free ds x
   b ← all_bound ds nothing_bound bs
-  claimed ds b t
+  claimed (around ds b) b t
 
 -- the same of a tree, by its head and its parts; the last clause takes other trees, of which the reader builds none with
 -- this head, since each of its trees is well-sorted
@@ -50,7 +50,7 @@ statement_by ds _ _ p = not_built p
 abbrev pub statement_given : Declarations → Node → Answer Sequent
 statement_given ds t = statement_by ds (head_of t) (parts_of t) (place_of t)
 
--- what a binder binds: values of one type, or a memory
+-- what a binder binds: values of one type, or a memory; the lemma of a module can't be used yet
 abbrev pub binds : Head → List Node → List Binder
 binds head.Values (x ∷ xs ∷ t ∷ []) = Value ∷ map (λ x. Value) (parts_of xs)
 binds head.Memory ps = Memory ∷ []

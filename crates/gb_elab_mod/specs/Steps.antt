@@ -193,7 +193,7 @@ used_rule ds g text.ApplyLemma x (t ∷ []) p = do
   f ← used ds g t
   given (rule.Use (use_rule.Apply f))
 used_rule ds g text.HaveLemma x (n ∷ t ∷ []) p = do
-  _ ← new_name g (text_of n) (place_of n)
+  _ ← new_name ds g (text_of n) (place_of n)
   f ← used ds g t
   given (rule.Use (use_rule.Have (text_of n) f))
 used_rule ds g k x ps p = equals_rule ds g k x ps p
@@ -221,7 +221,7 @@ looping_rule ds g k x ps p = used_rule ds g k x ps p
 -- a form is shown, and then is a hypothesis under a new name
 abbrev pub have_rule : Declarations → Sequent → Node → Node → Answer Rule
 have_rule ds g n f = do
-  _ ← new_name g (text_of n) (place_of n)
+  _ ← new_name ds g (text_of n) (place_of n)
   t ← formed ds g f
   given (rule.Ambient (conclusion.Have (text_of n) t))
 

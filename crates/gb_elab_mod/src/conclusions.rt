@@ -5,7 +5,7 @@ ghost use Rattle.std.specs.List.{list_any};
 ghost use Rattle.gb_goal.specs.Answers.{Answers, ◌>>=◌ as ◌and_then◌};
 ghost use Rattle.gb_goal.specs.Answers.Answer.{given};
 ghost use Rattle.gb_elab_mod.specs.Steps.{case_rule, conclusion_rule, formed, have_rule, sided_case_rule};
-ghost use Rattle.gb_elab_mod.specs.Taken.{is_taken, new_name};
+ghost use Rattle.gb_elab_mod.specs.Taken.{is_taken, new_name, unbound};
 
 use crate::cut::case_of_bodies;
 use gb_core::name::Name;
@@ -76,14 +76,30 @@ pub fn is_taken(goal: &Sequent, name: &Name) -> bool
                 || is_hypothesis(goal.hyps.as_slice(), name)))
 }
 
-/// Refuses a name that the context of a goal has already.
-pub fn check_new(alloc: Global, goal: &Sequent, name: &Name, place: Place) -> Result<(), Refused>
-    ensures { Answers (new_name goal.now name.now place) result }
+/// Refuses a name that an abstract module has which the lemma of a goal binds.
+pub fn check_unbound(alloc: Global, scope: &Scope, name: &Name, place: Place) -> Result<(), Refused>
+    ensures { Answers (unbound scope.now name.now place) result }
 {
-    if !is_taken(goal, name) {
-        return Ok(());
+    match scope.abstract_module(name) {
+        Some(_) => Err(double(alloc, name, place)),
+        None => Ok(()),
     }
-    Err(double(alloc, name, place))
+}
+
+/// Refuses a name that the context of a goal has already, or an abstract module which its lemma binds.
+pub fn check_new(
+    alloc: Global,
+    scope: &Scope,
+    goal: &Sequent,
+    name: &Name,
+    place: Place,
+) -> Result<(), Refused>
+    ensures { Answers (new_name scope.now goal.now name.now place) result }
+{
+    if is_taken(goal, name) {
+        return Err(double(alloc, name, place));
+    }
+    check_unbound(alloc, scope, name, place)
 }
 
 /// A form that a step brings to a goal.
@@ -131,7 +147,7 @@ pub fn have_rule(
 ) -> Result<Rule, Refused>
     ensures { Answers (have_rule scope.now goal.now name.now form.now) result }
 {
-    check_new(alloc, goal, &name.text, name.place)?;
+    check_new(alloc, scope, goal, &name.text, name.place)?;
     let form = formed(alloc, scope, goal, form)?;
     let name = name.text.copy(alloc)?;
     Ok(Rule::Ambient(AmbientRule::Have(name, form)))

@@ -421,9 +421,9 @@ pub fn keep_rule(
     name: &Node,
     tree: &Node,
 ) -> Result<Rule, Refused>
-    ensures { Answers (new_name goal.now (text_of name.now) (place_of name.now) and_then (λ _. used scope.now goal.now tree.now and_then (λ f. given (Rule.Use (UseRule.Have (text_of name.now) f))))) result }
+    ensures { Answers (new_name scope.now goal.now (text_of name.now) (place_of name.now) and_then (λ _. used scope.now goal.now tree.now and_then (λ f. given (Rule.Use (UseRule.Have (text_of name.now) f))))) result }
 {
-    check_new(alloc, goal, &name.text, name.place)?;
+    check_new(alloc, scope, goal, &name.text, name.place)?;
     let form = used(alloc, scope, goal, tree)?;
     let name = name.text.copy(alloc)?;
     Ok(Rule::Use(UseRule::Have(name, form)))

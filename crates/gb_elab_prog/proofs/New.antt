@@ -37,12 +37,12 @@ neither : (a b : Bool) → (a || b) ≡ false → (a ≡ false) × (b ≡ false)
 neither true b e = cc
 neither false b e = (refl, e)
 
-none_of : {A : Type 0} (o : Option A) → is_some o ≡ false → o ≡ None
+pub none_of : {A : Type 0} (o : Option A) → is_some o ≡ false → o ≡ None
 none_of None e = refl
 none_of (Some x) e = cc
 
 -- a name of none of several things
-not_first : (n : List ℕ) (d : List ℕ × Entry) (ds : Declarations) → entry_of (d ∷ ds) n ≡ None → (bytes_eq n d.0 ≡ false) × (entry_of ds n ≡ None)
+pub not_first : (n : List ℕ) (d : List ℕ × Entry) (ds : Declarations) → entry_of (d ∷ ds) n ≡ None → (bytes_eq n d.0 ≡ false) × (entry_of ds n ≡ None)
 not_first n d ds = step (bytes_eq n d.0)
   where
     step : (b : Bool) → (if b then Some d.1 else entry_of ds n) ≡ None → (b ≡ false) × (entry_of ds n ≡ None)

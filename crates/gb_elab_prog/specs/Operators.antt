@@ -31,7 +31,7 @@ abbrev pub of_one_type : Declarations → Bound → List Node → Node → Answe
 of_one_type ds b xs t = do
   ns ← taken b.names xs
   u ← type_or_number ds t
-  given (record { names = ns; values = b.values ++ of_type xs u; memories = b.memories })
+  given (record b { names = ns; values = b.values ++ of_type xs u })
 
 -- the parameters of one pair of brackets, beside others
 abbrev pub parameters : Declarations → Bound → Head → List Node → Place → Answer Bound

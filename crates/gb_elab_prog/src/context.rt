@@ -1,12 +1,18 @@
 // The context that the binders of a lemma make.
 
-ghost use Rattle.std.specs.Prelude.{◌≡◌, [], ◌∷◌, IfOk, MatchResult, bytes_eq};
+ghost use Rattle.std.specs.Prelude.{◌≡◌, [], ◌∷◌, ◌++◌, None, is_some, IfOk, OnOk, MatchResult, bytes_eq};
 ghost use Rattle.std.specs.List.{list_any};
 ghost use Rattle.gb_goal.specs.Answers.{Answers, Fails};
 ghost use Rattle.gb_goal.specs.Answers.Answer.{given};
-ghost use Rattle.gb_elab_prog.specs.Contexts.{all_bound, bound_by, context_of, memory_bound, nothing_around, nothing_bound, taken, untaken, values_bound};
+ghost use Rattle.gb_script.specs.Tree.{text_of};
+ghost use Rattle.gb_goal.specs.Binders.{binder_entries};
+ghost use Rattle.gb_goal.specs.Scope.{AreNew, entry_of};
+ghost use Rattle.gb_elab_prog.specs.Bound.{is_module};
+ghost use Rattle.gb_elab_prog.specs.Contexts.{all_bound, all_excluded, bound_by, context_of, excluded, memory_bound, module_bound, nothing_around, nothing_bound, taken, unbounded, untaken, values_bound};
+ghost use Rattle.gb_elab_prog.specs.Fresh.{free};
 
-use crate::bound::refuse_module;
+use crate::bound::is_module;
+use crate::module_types::module_type_at;
 use gb_core::SharedItems;
 use gb_core::name::{Name, Names};
 use gb_core::place::Place;
@@ -14,22 +20,28 @@ use gb_core::refusal::Refused;
 use gb_goal::scope::Scope;
 use gb_goal::sequent::{Sequent, ambient};
 use gb_names::binders::{of_type, variable};
+use gb_names::globals::no_declared;
+use gb_names::names::spelled;
 use gb_names::refusals::{double, not_built};
 use gb_names::types::type_of;
 use gb_script::head::Head;
 use gb_script::tree::Node;
 use gb_terms::decl::Typed;
 use gb_terms::make;
+use gb_terms::module::Bind;
 use sqlite_items::Items;
 use std::alloc::{AllocError, Global};
 
-/// What binders bind, in order: all names, and of them the values with their types, and the memories.
+/// What binders bind, in order: all names, and of them the values with their types, the memories, and the abstract modules.
 #[derive(Drop)]
 pub struct Bound {
     pub names: Names,
     pub values: Typed,
     pub memories: Names,
+    pub modules: Binds,
 }
+
+pub type Binds = Items<Bind>;
 
 impl Bound {
     pub fn nothing(alloc: Global) -> Bound
@@ -39,6 +51,7 @@ impl Bound {
             names: Items::new(alloc),
             values: Items::new(alloc),
             memories: Items::new(alloc),
+            modules: Items::new(alloc),
         }
     }
 }
@@ -95,11 +108,12 @@ fn take_name(alloc: Global, names: &mut Names, word: &Node) -> Result<(), Refuse
 ///
 /// # Errors
 ///
-/// `DoubleName` at a name that stands twice, and at that of a module that is declared; those of types; `Syntax` at the name of
-/// another module.
+/// `DoubleName` at a name that stands twice, and at that of a module which a declaration has; those of types and of module types;
+/// `UnknownName` and `Argument` of an excluded module that isn't one; `Syntax` at a bound on calls.
 #[tactic(auto, unfolding(crate::specs::Contexts::all_bound))]
 pub fn all_bound(alloc: Global, scope: &Scope, binders: &[Node]) -> Result<Bound, Refused>
-    ensures { Answers (all_bound scope.now nothing_bound binders.now) result }
+    ensures answer { Answers (all_bound scope.now nothing_bound binders.now) result }
+    ensures new { IfOk result (λ b. AreNew scope.now (binder_entries b.modules)) }
 {
     let mut bound = Bound::nothing(alloc);
     for x in binders {
@@ -108,13 +122,15 @@ pub fn all_bound(alloc: Global, scope: &Scope, binders: &[Node]) -> Result<Bound
     Ok(bound)
 }
 
-/// The context of what is bound, with no claim.
-pub fn context_of(alloc: Global, bound: Bound) -> Result<Sequent, AllocError>
-    ensures { IfOk result (λ s. s ≡ context_of bound) }
+/// The context of what is bound, with no claim, where its modules are declared; and the modules.
+pub fn context_of(alloc: Global, bound: Bound) -> Result<(Sequent, Binds), AllocError>
+    ensures context { IfOk result (λ r. r.0 ≡ context_of bound) }
+    ensures modules { IfOk result (λ r. r.1 ≡ bound.modules) }
 {
     let Bound {
         values,
         memories,
+        modules: binds,
         ..
     } = bound;
     let logical = SharedItems::new(alloc, values)?;
@@ -122,13 +138,14 @@ pub fn context_of(alloc: Global, bound: Bound) -> Result<Sequent, AllocError>
     let modules = SharedItems::empty(alloc)?;
     let hyps = SharedItems::empty(alloc)?;
     let conclusion = make::boolean(alloc, true)?;
-    Ok(Sequent {
+    let around = Sequent {
         logical,
         memories,
         modules,
         hyps,
         conclusion,
-    })
+    };
+    Ok((around, binds))
 }
 
 /// Binds beside others what a binder of this head and these parts binds.
@@ -140,7 +157,8 @@ fn bind(
     parts: &[Node],
     place: Place,
 ) -> Result<Bound, Refused>
-    ensures { Answers (bound_by scope.now bound head parts.now place) result }
+    ensures answer { Answers (bound_by scope.now bound head parts.now place) result }
+    ensures new { IfOk result (λ b. AreNew scope.now (binder_entries bound.modules) → AreNew scope.now (binder_entries b.modules)) }
 {
     match head {
         Head::Values => match parts {
@@ -154,14 +172,131 @@ fn bind(
             _ => Err(not_built(place)),
         },
         Head::ModuleBind => match parts {
-            [name, ..] => {
-                refuse_module(alloc, scope, name)?;
-                Err(not_built(name.place))
-            }
+            [name, ty, excluded, bounds] => bind_module(
+                alloc,
+                scope,
+                bound,
+                name,
+                ty,
+                excluded.parts.as_slice(),
+                bounds.parts.as_slice(),
+            ),
             _ => Err(not_built(place)),
         },
         _ => Err(not_built(place)),
     }
+}
+
+/// Whether an abstract module of this name is bound.
+fn is_bound(binds: &[Bind], name: &Name) -> bool
+    ensures { result ≡ is_some (entry_of (binder_entries binds.now) name.now) }
+{
+    for b in binds {
+        if *name == b.name {
+            return true;
+        }
+    }
+    false
+}
+
+/// Whether a module of this name is declared, or bound.
+fn is_around(scope: &Scope, binds: &[Bind], name: &Name) -> bool
+    ensures { result ≡ is_module (entry_of (scope.now ++ binder_entries binds.now) name.now) }
+{
+    match scope.entry(name) {
+        Some(entry) => is_module(entry),
+        None => is_bound(binds, name),
+    }
+}
+
+/// A module that an abstract one excludes.
+fn excluded(alloc: Global, scope: &Scope, binds: &[Bind], tree: &Node) -> Result<Name, Refused>
+    ensures { Answers (excluded scope.now binds.now tree.now) result }
+{
+    let name = spelled(alloc, tree)?;
+    if is_around(scope, binds, &name) {
+        Ok(name)
+    } else {
+        Err(no_declared(alloc, None, scope, &name, tree.place))
+    }
+}
+
+/// Modules that an abstract one excludes.
+fn all_excluded(
+    alloc: Global,
+    scope: &Scope,
+    binds: &[Bind],
+    trees: &[Node],
+) -> Result<Names, Refused>
+    ensures { Answers (all_excluded scope.now binds.now [] trees.now) result }
+{
+    let mut names = Items::new(alloc);
+    for tree in trees {
+        names.push(excluded(alloc, scope, binds, tree)?)?;
+    }
+    Ok(names)
+}
+
+/// Refuses bounds on calls, which aren't built yet.
+fn refuse_bounds(bounds: &[Node]) -> Result<(), Refused>
+    ensures { Answers (unbounded bounds.now) result }
+{
+    match bounds {
+        [] => Ok(()),
+        [first, ..] => Err(not_built(first.place)),
+    }
+}
+
+/// Whether a declaration has this name, or a module that is bound.
+fn is_taken(scope: &Scope, binds: &[Bind], name: &Name) -> bool
+    ensures { result ≡ is_some (entry_of (scope.now ++ binder_entries binds.now) name.now) }
+{
+    match scope.entry(name) {
+        Some(_) => true,
+        None => is_bound(binds, name),
+    }
+}
+
+/// Refuses the name of an abstract module that a declaration has, or one that is bound before.
+fn refuse_named(alloc: Global, scope: &Scope, binds: &[Bind], name: &Node) -> Result<(), Refused>
+    ensures answer { Answers (free (scope.now ++ binder_entries binds.now) name.now) result }
+    ensures free { OnOk result (entry_of (scope.now ++ binder_entries binds.now) (text_of name.now) ≡ None) }
+{
+    if is_taken(scope, binds, &name.text) {
+        Err(double(alloc, &name.text, name.place))
+    } else {
+        Ok(())
+    }
+}
+
+/// Binds an abstract module under a name that nothing has.
+fn bind_module(
+    alloc: Global,
+    scope: &Scope,
+    bound: Bound,
+    name: &Node,
+    ty: &Node,
+    excluded: &[Node],
+    bounds: &[Node],
+) -> Result<Bound, Refused>
+    ensures answer { Answers (module_bound scope.now bound name.now ty.now excluded.now bounds.now) result }
+    ensures new { IfOk result (λ b. AreNew scope.now (binder_entries bound.modules) → AreNew scope.now (binder_entries b.modules)) }
+{
+    let mut bound = bound;
+    take_name(alloc, &mut bound.names, name)?;
+    refuse_named(alloc, scope, bound.modules.as_slice(), name)?;
+    module_type_at(alloc, scope, ty)?;
+    let minus = all_excluded(alloc, scope, bound.modules.as_slice(), excluded)?;
+    refuse_bounds(bounds)?;
+    let ty = spelled(alloc, ty)?;
+    let name = name.text.copy(alloc)?;
+    bound.modules.push(Bind {
+        name,
+        ty,
+        minus,
+        bounds: Items::new(alloc),
+    })?;
+    Ok(bound)
 }
 
 fn bind_values(
@@ -172,40 +307,26 @@ fn bind_values(
     more: &[Node],
     ty: &Node,
 ) -> Result<Bound, Refused>
-    ensures { Answers (values_bound scope.now bound first.now more.now ty.now) result }
+    ensures answer { Answers (values_bound scope.now bound first.now more.now ty.now) result }
+    ensures modules { IfOk result (λ b. b.modules ≡ bound.modules) }
 {
-    let Bound {
-        mut names,
-        mut values,
-        memories,
-    } = bound;
-    take_name(alloc, &mut names, first)?;
-    take_names(alloc, &mut names, more)?;
+    let mut bound = bound;
+    take_name(alloc, &mut bound.names, first)?;
+    take_names(alloc, &mut bound.names, more)?;
     let ty = type_of(alloc, scope, ty)?;
-    values.push(variable(alloc, &first.text, &ty)?)?;
-    values.append(of_type(alloc, more, &ty)?)?;
-    Ok(Bound {
-        names,
-        values,
-        memories,
-    })
+    bound.values.push(variable(alloc, &first.text, &ty)?)?;
+    bound.values.append(of_type(alloc, more, &ty)?)?;
+    Ok(bound)
 }
 
 fn bind_memory(alloc: Global, bound: Bound, name: &Node) -> Result<Bound, Refused>
-    ensures { Answers (memory_bound bound name.now) result }
+    ensures answer { Answers (memory_bound bound name.now) result }
+    ensures modules { IfOk result (λ b. b.modules ≡ bound.modules) }
 {
-    let Bound {
-        mut names,
-        values,
-        mut memories,
-    } = bound;
-    take_name(alloc, &mut names, name)?;
-    memories.push(name.text.copy(alloc)?)?;
-    Ok(Bound {
-        names,
-        values,
-        memories,
-    })
+    let mut bound = bound;
+    take_name(alloc, &mut bound.names, name)?;
+    bound.memories.push(name.text.copy(alloc)?)?;
+    Ok(bound)
 }
 
 /// The empty context, with no claim.

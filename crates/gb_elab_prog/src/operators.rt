@@ -128,19 +128,11 @@ fn bind_all(
 ) -> Result<Bound, Refused>
     ensures { Answers (of_one_type scope.now bound words.now ty.now) result }
 {
-    let Bound {
-        mut names,
-        mut values,
-        memories,
-    } = bound;
-    take_names(alloc, &mut names, words)?;
+    let mut bound = bound;
+    take_names(alloc, &mut bound.names, words)?;
     let ty = type_or_number(alloc, scope, ty)?;
-    values.append(of_type(alloc, words, &ty)?)?;
-    Ok(Bound {
-        names,
-        values,
-        memories,
-    })
+    bound.values.append(of_type(alloc, words, &ty)?)?;
+    Ok(bound)
 }
 
 /// The types of parameters.

@@ -1,5 +1,5 @@
 -- What a statement writes: a variable, several at once, or an entry of a map.
-use Rattle.std.specs.Prelude.{ℕ, nat_lt, if◌then◌else◌, List, [], ◌∷◌, ◌++◌, map, length}
+use Rattle.std.specs.Prelude.{nat_lt, if◌then◌else◌, List, [], ◌∷◌, ◌++◌, map, length}
 use Rattle.std.specs.List.{list_any}
 use Rattle.gb_core.specs.declared.refusal.Why.TheVariants.{Argument, DoubleName}
 use Rattle.gb_core.specs.declared.ty.Ty.{Ty}

@@ -224,7 +224,7 @@ module _ (ds : Declarations) (scoped : IsTypedScope (declared ds)) (q : Sequent)
   linked : (p : ProcRef) (a : Proc) → procedure_of ds p ≡ Some a → g.procedure p ≡ Some (routine a.params a.locals (statements g a.body.list) a.value)
   linked p a e =
       subst (λ h. h.procedure p ≡ Some (routine a.params a.locals (statements h a.body.list) a.value)) (sym over.meant)
-      (linked_there ds scoped over.interpretation (let x = over.chosen in x.unchosen) p a e)
+      (linked_there ds scoped over.interpretation over.chosen p a e)
 
   typed_body : (p : ProcRef) (a : Proc) → procedure_of ds p ≡ Some a → IsBody goal (locals_of a) a.body.list
   typed_body p a e = let x = there p a e in let y = x.typed in y.body

@@ -12,9 +12,11 @@ use Rattle.gb_terms.specs.declared.module.Mexp.TheBlock as M
 use Rattle.gb_terms.specs.declared.module.Mexp.TheVariants.{Name, Apply, Apply'}
 use Rattle.gb_terms.specs.declared.module.ProcRef.{ProcRef}
 use Rattle.gb_terms.specs.Rows.{mexps_in}
-use Rattle.gb_goal.specs.Entries.{Declarations, module_of, module_type_of, proc_of}
+use Rattle.gb_goal.specs.declared.scope.Entry.{Entry}
+use Rattle.gb_goal.specs.declared.scope.Entry.TheVariants as entry
+use Rattle.gb_goal.specs.Entries.{Declarations, as_module, entry_of, module_of, module_type_of, proc_of}
 use Rattle.gb_goal.specs.Instances.{instance}
-use Rattle.gb_goal.specs.Interfaces.{Interface, fits, found, given, interface_at, interface_of, interfaces_at, lacking, left_over, of_complete, of_declared, of_inner, of_module, of_type, procedure_in, procedure_type, procedure_types, suits, type_of_procedure}
+use Rattle.gb_goal.specs.Interfaces.{Interface, fits, found, given, interface_at, interface_of, interfaces_at, lacking, left_over, of_complete, of_declared, of_entry, of_inner, of_module, of_type, procedure_in, procedure_type, procedure_types, suits, type_of_procedure}
 use Rattle.gb_goal.proofs.Instances.{arguments_are}
 use Rattle.gb_goal.specs.Scope.{instance_at, proc_at, proc_if_plain, proc_in, procedure_of}
 use mathlib.Core.Former.{Count}
@@ -103,11 +105,50 @@ named_types : (o : Option Module) (n : List ℕ) → procedure_in (option_map of
 named_types None n = refl
 named_types (Some m) n = plain_types m.params m.procs n
 
-module _ (ds : Declarations) where
-  types_at : (m : Mexp) (n : List ℕ) → procedure_in (interface_at ds None m) n ≡ option_map type_of_procedure (proc_at ds m n)
-  types_at (Name m) n = named_types (module_of ds m) n
-  types_at (Apply' m k args) n = ap (λ is. procedure_in (given ds (option_map of_module (module_of ds m)) is) n) (row_interfaces ds args) ∙ applied_types ds (module_of ds m) (mexps_in args) n
+-- Where each name that is known is that of a declared module, a reference to a procedure has a type where it means a declared one.
+module _ (ds : Declarations) (names : (n : List ℕ) → interface_of ds None n ≡ option_map of_module (module_of ds n)) where
+  all_types_at : (m : Mexp) (n : List ℕ) → procedure_in (interface_at ds None m) n ≡ option_map type_of_procedure (proc_at ds m n)
+  all_types_at (Name m) n = ap (λ o. procedure_in o n) (names m) ∙ named_types (module_of ds m) n
+  all_types_at (Apply' m k args) n =
+      (λ i. procedure_in (given ds (names m i) (row_interfaces ds args i)) n) ∙ applied_types ds (module_of ds m) (mexps_in args) n
 
-  -- the type of the procedure that a reference means, outside of modules
-  pub declared_type : (r : ProcRef) → procedure_type ds None r ≡ option_map type_of_procedure (procedure_of ds r)
-  declared_type r = types_at r.«module» r.name
+  pub declared_types : (r : ProcRef) → procedure_type ds None r ≡ option_map type_of_procedure (procedure_of ds r)
+  declared_types r = all_types_at r.«module» r.name
+
+module _ (ds : Declarations) where
+  module_known : (e : Option Entry) (x : Module) → as_module e ≡ Some x → of_entry ds e ≡ Some (of_module x)
+  module_known None x h = absurd (cc)
+  module_known (Some (entry.Module m)) x h = ap (option_map of_module) h
+  module_known (Some (entry.AbstractModule b)) x h = absurd (cc)
+  module_known (Some (entry.ModuleType t)) x h = absurd (cc)
+  module_known (Some (entry.Lemma q bs)) x h = absurd (cc)
+  module_known (Some (entry.Type t)) x h = absurd (cc)
+  module_known (Some entry.AbstractType) x h = absurd (cc)
+  module_known (Some (entry.Constant c)) x h = absurd (cc)
+  module_known (Some (entry.Operator o)) x h = absurd (cc)
+  module_known (Some (entry.AbstractOperator o)) x h = absurd (cc)
+  module_known (Some (entry.Terminating f)) x h = absurd (cc)
+
+  -- what is known of a declared module
+  pub declared_module : (n : List ℕ) (x : Module) → module_of ds n ≡ Some x → interface_of ds None n ≡ Some (of_module x)
+  declared_module n x h = module_known (entry_of ds n) x h
+
+  types_at : (m : Mexp) (n : List ℕ) (p : Proc) → proc_at ds m n ≡ Some p → procedure_in (interface_at ds None m) n ≡ Some (type_of_procedure p)
+  types_at (Name m) n p e = by_module (module_of ds m) refl e
+    where
+      by_module : (o : Option Module) → module_of ds m ≡ o → proc_in o n ≡ Some p → procedure_in (interface_of ds None m) n ≡ Some (type_of_procedure p)
+      by_module None h e = absurd (cc)
+      by_module (Some x) h e = ap (λ i. procedure_in i n) (declared_module m x h) ∙ plain_types x.params x.procs n ∙ ap (option_map type_of_procedure) e
+  types_at (Apply' m k args) n p e = by_module (module_of ds m) refl e
+    where
+      by_module : (o : Option Module) → module_of ds m ≡ o → instance_at ds o (mexps_in args) n ≡ Some p →
+          procedure_in (given ds (interface_of ds None m) (interfaces_at ds None args)) n ≡ Some (type_of_procedure p)
+      by_module None h e = absurd (cc)
+      by_module (Some x) h e =
+          ap (λ is. procedure_in (given ds (interface_of ds None m) is) n) (row_interfaces ds args)
+          ∙ ap (λ i. procedure_in (given ds i (map (interface_at ds None) (mexps_in args))) n) (declared_module m x h)
+          ∙ applied_types ds (Some x) (mexps_in args) n ∙ ap (option_map type_of_procedure) e
+
+  -- the type of the declared procedure that a reference means, outside of modules
+  pub declared_type : (r : ProcRef) (p : Proc) → procedure_of ds r ≡ Some p → procedure_type ds None r ≡ Some (type_of_procedure p)
+  declared_type r p e = types_at r.«module» r.name p e

@@ -6,6 +6,7 @@ use Rattle.gb_core.specs.declared.ty.Ty.{Ty}
 use Rattle.gb_core.specs.declared.ty.Ty.TheVariants.{Abstract}
 use Rattle.gb_terms.specs.declared.decl.Module.{Module}
 use Rattle.gb_terms.specs.declared.decl.Proc.{Proc}
+use Rattle.gb_terms.specs.declared.module.Bind.{Bind}
 use Rattle.gb_terms.specs.declared.term.Term.{out-Term}
 use Rattle.gb_goal.specs.declared.module_type.ModuleType.{ModuleType}
 use Rattle.gb_goal.specs.declared.sequent.Sequent.{Sequent}
@@ -35,6 +36,10 @@ as_module _ = None
 abbrev pub as_module_type : Option Entry → Option ModuleType
 as_module_type (Some (entry.ModuleType t)) = Some t
 as_module_type _ = None
+
+abbrev pub as_abstract : Option Entry → Option Bind
+as_abstract (Some (entry.AbstractModule b)) = Some b
+as_abstract _ = None
 
 abbrev pub as_lemma : Option Entry → Option Sequent
 as_lemma (Some (entry.Lemma s bs)) = Some s
@@ -66,6 +71,10 @@ module_of ds n = as_module (entry_of ds n)
 -- the module type of this name
 abbrev pub module_type_of : Declarations → List ℕ → Option ModuleType
 module_type_of ds n = as_module_type (entry_of ds n)
+
+-- the abstract module of this name
+abbrev pub abstract_of : Declarations → List ℕ → Option Bind
+abstract_of ds n = as_abstract (entry_of ds n)
 
 -- the statement of the lemma of this name
 abbrev pub lemma_of : Declarations → List ℕ → Option Sequent

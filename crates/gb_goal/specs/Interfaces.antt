@@ -12,7 +12,9 @@ use Rattle.gb_terms.specs.declared.module.Mexp.TheVariants.{Name, Apply'}
 use Rattle.gb_terms.specs.declared.module.ProcRef.{ProcRef}
 use Rattle.gb_goal.specs.declared.module_type.ModuleType.{ModuleType}
 use Rattle.gb_goal.specs.declared.module_type.Signature.{Signature}
-use Rattle.gb_goal.specs.Entries.{Declarations, module_of, module_type_of}
+use Rattle.gb_goal.specs.declared.scope.Entry.{Entry}
+use Rattle.gb_goal.specs.declared.scope.Entry.TheVariants as entry
+use Rattle.gb_goal.specs.Entries.{Declarations, entry_of, module_type_of}
 
 -- the parameters of a procedure, and the type of its result
 pub record ProcedureType : Type 0 where
@@ -53,8 +55,14 @@ of_module m = record { lacks = m.params; procedures = procedure_types m.procs }
 abbrev pub of_type : ModuleType → Interface
 of_type t = record { lacks = t.params; procedures = signature_types t.signatures }
 
+-- a declared module; of an abstract one it is known that it is one of its module type
+abbrev pub of_entry : Declarations → Option Entry → Option Interface
+of_entry ds (Some (entry.Module m)) = Some (of_module m)
+of_entry ds (Some (entry.AbstractModule b)) = option_map of_type (module_type_of ds b.ty)
+of_entry ds _ = None
+
 abbrev pub of_declared : Declarations → List ℕ → Option Interface
-of_declared ds n = option_map of_module (module_of ds n)
+of_declared ds n = of_entry ds (entry_of ds n)
 
 -- inside of a module: one of these parameters of it, the module itself as far as its procedures are there, or a declared module
 abbrev pub of_inner : Declarations → Module → List Param → List ℕ → Option Interface

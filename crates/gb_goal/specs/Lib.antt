@@ -1,4 +1,5 @@
 pub mod Answers
+pub mod Binders
 pub mod Entries
 pub mod Goal
 pub mod Instances

@@ -11,7 +11,7 @@ use Rattle.gb_terms.specs.Rows.{mexps_in}
 use Rattle.gb_goal.specs.declared.scope.ProcName.{ProcName}
 use Rattle.gb_goal.specs.declared.scope.Entry.{Entry}
 use Rattle.gb_goal.specs.declared.scope.Entry.TheVariants as entry
-pub use Rattle.gb_goal.specs.Entries.{Declarations, entry_of, entry_at, as_module, as_module_type, as_lemma, as_binders, as_type, as_constant, as_operator, module_of, module_type_of, lemma_of, binders_of, type_named, constant_named, operator_named, proc_of}
+pub use Rattle.gb_goal.specs.Entries.{Declarations, entry_of, entry_at, as_module, as_module_type, as_abstract, as_lemma, as_binders, as_type, as_constant, as_operator, module_of, module_type_of, abstract_of, lemma_of, binders_of, type_named, constant_named, operator_named, proc_of}
 use Rattle.gb_goal.specs.Instances.{instance}
 use Rattle.gb_goal.specs.Interfaces.{suits}
 

@@ -6,7 +6,7 @@ ghost use Rattle.gb_goal.specs.Interfaces.{fits, found, has_type, interface_at, 
 ghost use Rattle.gb_goal.specs.Seen.{seen, typed, types_in};
 
 use crate::module_type::{ModuleType, Signature};
-use crate::scope::Scope;
+use crate::scope::{Entry, Scope};
 use gb_core::Shared;
 use gb_core::name::Name;
 use gb_core::same::{same_name, same_types};
@@ -179,12 +179,14 @@ impl<'a> Interface<'a> {
     }
 }
 
+/// A declared module; of an abstract one it is known that it is one of its module type.
 fn of_declared<'a>(scope: &'a Scope, name: &Name) -> Option<Interface<'a>>
     ensures { option_map seen result ≡ of_declared scope.now name.now }
 {
-    match scope.module(name) {
-        Some(module) => Some(Interface::of_module(module)),
-        None => None,
+    match scope.entry(name) {
+        Some(Entry::Module(module)) => Some(Interface::of_module(module)),
+        Some(Entry::AbstractModule(bind)) => of_asked(scope.module_type(&bind.ty)),
+        _ => None,
     }
 }
 
@@ -218,8 +220,8 @@ fn of_inner<'a>(
     }
 }
 
-/// What a name stands for: a declared module; inside of a module that is typed also one of its parameters, or the module itself, as
-/// far as its procedures are there.
+/// What a name stands for: a declared module, also an abstract one; inside of a module that is typed also one of its parameters, or the
+/// module itself, as far as its procedures are there.
 pub fn interface_of<'a>(
     scope: &'a Scope,
     around: Option<&'a Module>,

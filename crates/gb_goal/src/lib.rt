@@ -1,6 +1,7 @@
 //! Sequents, goals as rules see them, and the scope of a script.
 #![tactic(auto)]
 
+pub mod binders;
 pub mod goal;
 pub mod instance;
 pub mod interface;

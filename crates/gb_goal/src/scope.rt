@@ -3,7 +3,7 @@
 ghost use Rattle.std.specs.Prelude.{◌≡◌, ◌≤◌, ◌↔◌, [], ◌∷◌, ◌++◌, length, take, None, string_bytes, IsTrue, IfOk, OnOk, OnErr};
 ghost use Rattle.std.specs.Option.{option_copied, option_map};
 ghost use Rattle.gb_goal.specs.Instances.{instance};
-ghost use Rattle.gb_goal.specs.Scope.{AreNew, binders_of, constant_named, declarations_in, entry_at, entry_of, instance_at, is_proved, is_the_same, lemma_of, module_of, module_type_of, operator_named, path_of, proc_in, proc_of, procedure_of, type_named, weight};
+ghost use Rattle.gb_goal.specs.Scope.{abstract_of, AreNew, binders_of, constant_named, declarations_in, entry_at, entry_of, instance_at, is_proved, is_the_same, lemma_of, module_of, module_type_of, operator_named, path_of, proc_in, proc_of, procedure_of, type_named, weight};
 
 use crate::instance::instance;
 use crate::interface::suits;
@@ -14,7 +14,7 @@ use gb_core::same::same_name;
 use gb_core::ty::Ty;
 use gb_core::{Shared, SharedItems};
 use gb_terms::decl::{Module, Proc};
-use gb_terms::module::{Mexp, ProcRef};
+use gb_terms::module::{Bind, Mexp, ProcRef};
 use gb_terms::term::Term;
 use indexmap::IndexMap;
 use sqlite_items::{Boxed, Items};
@@ -81,6 +81,8 @@ fn is_the_same(a: &ProcName, b: &ProcName) -> bool
 pub enum Entry {
     ModuleType(ModuleType),
     Module(Module),
+    /// A module that a lemma binds, while the steps of its proof run.
+    AbstractModule(Bind),
     /// A lemma's statement, and its binders.
     Lemma(Sequent, Binders),
     /// What the name of a type stands for: an abbreviated type, or an enumeration.
@@ -103,6 +105,7 @@ impl Drop for Entry {
         match self {
             Entry::ModuleType(ty) => drop(ty),
             Entry::Module(module) => drop(module),
+            Entry::AbstractModule(bind) => drop(bind),
             Entry::Lemma(statement, binders) => {
                 drop(statement);
                 drop(binders)
@@ -304,6 +307,16 @@ impl Scope {
     {
         match self.entry(name) {
             Some(Entry::ModuleType(ty)) => Some(ty),
+            _ => None,
+        }
+    }
+
+    /// The abstract module of this name.
+    pub fn abstract_module(&self, name: &Name) -> Option<&Bind>
+        ensures { option_copied result ≡ abstract_of self.now name.now }
+    {
+        match self.entry(name) {
+            Some(Entry::AbstractModule(bind)) => Some(bind),
             _ => None,
         }
     }

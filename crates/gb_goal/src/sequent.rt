@@ -90,6 +90,23 @@ impl Sequent {
         })
     }
 
+    /// The same goal with these modules in its context.
+    pub fn with_modules(&self, modules: SharedItems<Bind>) -> Result<Sequent, AllocError>
+        ensures { IfOk result (λ made. made ≡ record self.now { modules = modules }) }
+    {
+        let logical = self.logical.share()?;
+        let memories = self.memories.share()?;
+        let hyps = self.hyps.share()?;
+        let conclusion = self.conclusion.share()?;
+        Ok(Sequent {
+            logical,
+            memories,
+            modules,
+            hyps,
+            conclusion,
+        })
+    }
+
     /// One owner more of all that the goal holds.
     pub fn share(&self) -> Result<Sequent, AllocError>
         ensures { IfOk result (λ made. made ≡ self.now) }

@@ -1,5 +1,6 @@
 -- What is true in each model goes on to be so when declarations are added that leave what names mean as it is.
 use Rattle.std.proofs.Common.{◌≡◌, ℕ, List, [], ◌∷◌, ◌++◌, map, refl, sym, ap, subst, ◌∙◌}
+use Rattle.std.proofs.lemmas.List.{append-nil}
 use Rattle.gb_terms.specs.declared.decl.TypedName.{TypedName}
 use Rattle.gb_terms.specs.declared.module.Bind.{Bind}
 use Rattle.gb_goal.specs.declared.sequent.Hyp.{Hyp}
@@ -39,6 +40,20 @@ module _ (ds es : Declarations) (w : World) (size : Name → ℕ) (t u : Table) 
       (f vs (subst (λ y. AreValues y (map (λ (x : TypedName). x.ty) q.logical) vs) (sym (values-same k)) typed) ms
       (hypotheses-to q.hyps k (context vs ms) hyps)))
       h
+
+  -- the axioms among some declarations
+  pub axioms-over : (rest : Declarations) → AxiomsAreTrue ds rest (interpretation w size t) → AxiomsAreTrue es rest (interpretation w size u)
+  axioms-over [] h = tt
+  axioms-over ((n, axiom_of q) ∷ rest) h = (sequent-to q [] h.0, axioms-over rest h.1)
+  axioms-over ((n, abstract_type) ∷ rest) h = axioms-over rest h
+  axioms-over ((n, abbreviation stood) ∷ rest) h = axioms-over rest h
+  axioms-over ((n, operator o) ∷ rest) h = axioms-over rest h
+  axioms-over ((n, abstract_operator o) ∷ rest) h = axioms-over rest h
+  axioms-over ((n, module_type m) ∷ rest) h = axioms-over rest h
+  axioms-over ((n, concrete_module m) ∷ rest) h = axioms-over rest h
+  axioms-over ((n, abstract_module b) ∷ rest) h = axioms-over rest h
+  axioms-over ((n, lemma q) ∷ rest) h = axioms-over rest h
+  axioms-over ((n, terminating f) ∷ rest) h = axioms-over rest h
 
 module _ (ls : Declarations) where
   pub results-front : (ds : Declarations) (t : Types) (table : Table) → GiveResults (ds ++ ls) t table → GiveResults ds t table
@@ -80,19 +95,22 @@ no-declared ((n, concrete_module m) ∷ rest) r = absurd r.0
 no-declared ((n, abstract_module b) ∷ rest) r = absurd r.0
 no-declared ((n, axiom_of q) ∷ rest) r = no-declared rest r.1
 
-module _ (ls : Declarations) (s : declared_modules ls ≡ []) where
-  pub declared-same : (ds : Declarations) → declared_modules (ds ++ ls) ≡ declared_modules ds
-  declared-same [] = s
-  declared-same ((n, abstract_module b) ∷ ds) = ap (λ z. b ∷ z) (declared-same ds)
-  declared-same ((n, abstract_type) ∷ ds) = declared-same ds
-  declared-same ((n, abbreviation stood) ∷ ds) = declared-same ds
-  declared-same ((n, operator o) ∷ ds) = declared-same ds
-  declared-same ((n, abstract_operator o) ∷ ds) = declared-same ds
-  declared-same ((n, module_type t) ∷ ds) = declared-same ds
-  declared-same ((n, concrete_module m) ∷ ds) = declared-same ds
-  declared-same ((n, axiom_of q) ∷ ds) = declared-same ds
-  declared-same ((n, lemma q) ∷ ds) = declared-same ds
-  declared-same ((n, terminating f) ∷ ds) = declared-same ds
+-- the abstract modules of two lists of declarations
+pub declared-then : (ds es : Declarations) → declared_modules (ds ++ es) ≡ declared_modules ds ++ declared_modules es
+declared-then [] es = refl
+declared-then ((n, abstract_module b) ∷ ds) es = ap (λ z. b ∷ z) (declared-then ds es)
+declared-then ((n, abstract_type) ∷ ds) es = declared-then ds es
+declared-then ((n, abbreviation stood) ∷ ds) es = declared-then ds es
+declared-then ((n, operator o) ∷ ds) es = declared-then ds es
+declared-then ((n, abstract_operator o) ∷ ds) es = declared-then ds es
+declared-then ((n, module_type t) ∷ ds) es = declared-then ds es
+declared-then ((n, concrete_module m) ∷ ds) es = declared-then ds es
+declared-then ((n, axiom_of q) ∷ ds) es = declared-then ds es
+declared-then ((n, lemma q) ∷ ds) es = declared-then ds es
+declared-then ((n, terminating f) ∷ ds) es = declared-then ds es
+
+pub declared-same : (ls : Declarations) → declared_modules ls ≡ [] → (ds : Declarations) → declared_modules (ds ++ ls) ≡ declared_modules ds
+declared-same ls s ds = declared-then ds ls ∙ ap (λ z. declared_modules ds ++ z) s ∙ append-nil (declared_modules ds)
 
 module _ (ls : Declarations) (s : KeepModules ls) where
   module _ (ds : Declarations) (w : World) (size : Name → ℕ) (t u : Table) (e : SameScope ds (ds ++ ls) w size t u)
@@ -102,19 +120,6 @@ module _ (ls : Declarations) (s : KeepModules ls) where
 
     back : SameScope es ds w size u t
     back = turned ds es w size t u e
-
-    axioms-to : (rest : Declarations) → AxiomsAreTrue es rest (interpretation w size u) → AxiomsAreTrue ds rest (interpretation w size t)
-    axioms-to [] h = tt
-    axioms-to ((n, axiom_of q) ∷ rest) h = (sequent-to es ds w size u t back q [] h.0, axioms-to rest h.1)
-    axioms-to ((n, abstract_type) ∷ rest) h = axioms-to rest h
-    axioms-to ((n, abbreviation stood) ∷ rest) h = axioms-to rest h
-    axioms-to ((n, operator o) ∷ rest) h = axioms-to rest h
-    axioms-to ((n, abstract_operator o) ∷ rest) h = axioms-to rest h
-    axioms-to ((n, module_type m) ∷ rest) h = axioms-to rest h
-    axioms-to ((n, concrete_module m) ∷ rest) h = axioms-to rest h
-    axioms-to ((n, abstract_module b) ∷ rest) h = axioms-to rest h
-    axioms-to ((n, lemma q) ∷ rest) h = axioms-to rest h
-    axioms-to ((n, terminating f) ∷ rest) h = axioms-to rest h
 
     model-back : IsModel es (interpretation w size u) → IsModel ds (interpretation w size t)
     model-back m =
@@ -126,7 +131,7 @@ module _ (ls : Declarations) (s : KeepModules ls) where
           known = subst (AreIn w) back.frame.globals m.known;
           results = subst (λ y. GiveResults ds y t) same
               (r (types_of es (interpretation w size u)) (results-front ls ds (types_of es (interpretation w size u)) u m.results));
-          axioms = axioms-to ds (axioms-front ls es ds (interpretation w size u) m.axioms);
+          axioms = axioms-over es ds w size u t back ds (axioms-front ls es ds (interpretation w size u) m.axioms);
         }
 
     pub carried : (P Q : Interpretation → Type 0) → ((cs : List Chosen) → P (interpreted w size t cs) → Q (interpreted w size u cs)) →

@@ -20,6 +20,7 @@ pub mod SameScope
 pub mod ModuleTypes
 pub mod Statements
 pub mod Kept
+pub mod DeclaredBinders
 pub mod Renaming
 pub mod KeptLoops
 pub mod PlainTypes

@@ -13,6 +13,7 @@ declared-append (d ∷ ds) es = ap (λ r. (d.0, declaration_of d.1) ∷ r) (decl
 
 module_in-entry : (e : Entry) → module_in (declaration_of e) ≡ as_module (Some e)
 module_in-entry (entry.ModuleType t) = refl
+module_in-entry (entry.AbstractModule t) = refl
 module_in-entry (entry.Module m) = refl
 module_in-entry (entry.Lemma q order) = refl
 module_in-entry (entry.Type t) = refl

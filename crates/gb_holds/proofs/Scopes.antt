@@ -41,6 +41,7 @@ gained_proof ds n p s h =
 -- of what claims nothing a sound scope promises nothing
 promises_nothing : (before : Declarations) (n : Name) (e : Entry) → is_claim e ≡ false → IsSoundAfter before n (declaration_of e)
 promises_nothing before n (entry.ModuleType t) h = tt
+promises_nothing before n (entry.AbstractModule t) h = tt
 promises_nothing before n (entry.Module m) h = tt
 promises_nothing before n (entry.Lemma q order) h = absurd (cc)
 promises_nothing before n (entry.Type t) h = tt

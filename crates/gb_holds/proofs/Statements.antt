@@ -1,4 +1,5 @@
--- Declarations of no module and no module type leave modules as they are; those of no operator either leave what names mean.
+-- Declarations of no module type and of no module, but for abstract ones, leave modules as they are; those of no operator either leave
+-- what names mean.
 use Rattle.std.proofs.Common.{◌≡◌, ℕ, List, [], ◌∷◌, ◌++◌, None, refl, sym, ap, ◌∙◌}
 use Rattle.std.proofs.Math.Path.{fun_ext}
 use Rattle.gb_core.specs.declared.var.Var.{Var}
@@ -12,13 +13,22 @@ use Rattle.gb_holds.specs.Linking.{linked_procedure}
 use Rattle.gb_holds.specs.Footprints.{footprint, footprint_read, footprint_globals}
 use Rattle.gb_holds.specs.Adversary.{type_named}
 use Rattle.gb_holds.specs.Settings.{Chosen, is_chosen, Table, Interpretation, interpreted, program_footprint, with_abstract_footprints, footprints, types_of, bare, with_declaration, with_operators, with_abstract_programs, linked_modules, with_modules, setting, globals_from, declared_globals}
-use Rattle.gb_holds.specs.Holds.{IsSilent, AreSilent, KeepsModules, KeepModules}
+use Rattle.gb_holds.specs.Holds.{IsSilent, AreSilent, EachDeclared, KeepsModules, KeepModules}
 use Rattle.gb_holds.specs.Naming.{AnyName}
 use Rattle.gb_holds.proofs.Later.{declared_after}
 use Rattle.gb_holds.proofs.ModuleTypes.{types-after, any-chosen, programs_at, footprints_at}
 use Rattle.gb_holds.proofs.SameScope.{SameFrame, SameScope}
 
-no-modules : {X : Type 0} (read : Reading X) (ms : Modules X) (ls : Declarations) → KeepModules ls → modules_of read ms ls ≡ ms
+-- a declaration of no module type and no module; the program of an abstract module is chosen
+abbrev pub AddsNoModule : Declaration → Type 0
+AddsNoModule (module_type t) = ⊥
+AddsNoModule (concrete_module m) = ⊥
+AddsNoModule _ = Unit {0}
+
+abbrev pub AddNoModule : Declarations → Type 0
+AddNoModule ds = EachDeclared AddsNoModule ds
+
+no-modules : {X : Type 0} (read : Reading X) (ms : Modules X) (ls : Declarations) → AddNoModule ls → modules_of read ms ls ≡ ms
 no-modules read ms [] s = refl
 no-modules read ms ((k, lemma q) ∷ ls) s = no-modules read ms ls s.1
 no-modules read ms ((k, terminating f) ∷ ls) s = no-modules read ms ls s.1
@@ -28,10 +38,10 @@ no-modules read ms ((k, operator o) ∷ ls) s = no-modules read ms ls s.1
 no-modules read ms ((k, abstract_operator o) ∷ ls) s = no-modules read ms ls s.1
 no-modules read ms ((k, module_type t) ∷ ls) s = absurd s.0
 no-modules read ms ((k, concrete_module m) ∷ ls) s = absurd s.0
-no-modules read ms ((k, abstract_module b) ∷ ls) s = absurd s.0
+no-modules read ms ((k, abstract_module b) ∷ ls) s = no-modules read ms ls s.1
 no-modules read ms ((k, axiom_of q) ∷ ls) s = no-modules read ms ls s.1
 
-no-globals : (ls : Declarations) → KeepModules ls → declared_globals ls ≡ []
+no-globals : (ls : Declarations) → AddNoModule ls → declared_globals ls ≡ []
 no-globals [] s = refl
 no-globals ((k, lemma q) ∷ ls) s = no-globals ls s.1
 no-globals ((k, terminating f) ∷ ls) s = no-globals ls s.1
@@ -41,17 +51,17 @@ no-globals ((k, operator o) ∷ ls) s = no-globals ls s.1
 no-globals ((k, abstract_operator o) ∷ ls) s = no-globals ls s.1
 no-globals ((k, module_type t) ∷ ls) s = absurd s.0
 no-globals ((k, concrete_module m) ∷ ls) s = absurd s.0
-no-globals ((k, abstract_module b) ∷ ls) s = absurd s.0
+no-globals ((k, abstract_module b) ∷ ls) s = no-globals ls s.1
 no-globals ((k, axiom_of q) ∷ ls) s = no-globals ls s.1
 
-keeps-types : (d : Declaration) → KeepsModules d → module_type_in d ≡ None
-keeps-types (module_type t) s = absurd s
-keeps-types (concrete_module m) s = refl
-keeps-types _ s = refl
+adds-no-type : (d : Declaration) → AddsNoModule d → module_type_in d ≡ None
+adds-no-type (module_type t) s = absurd s
+adds-no-type (concrete_module m) s = refl
+adds-no-type _ s = refl
 
-module _ (ls : Declarations) (s : KeepModules ls) where
+module _ (ls : Declarations) (s : AddNoModule ls) where
   type-same : (ds : Declarations) (n : Name) → type_named (ds ++ ls) n ≡ type_named ds n
-  type-same ds n = types-after KeepsModules keeps-types ls s ds n
+  type-same ds n = types-after AddsNoModule adds-no-type ls s ds n
 
   modules-same : {X : Type 0} (read : Reading X) (ms : Modules X) (ds : Declarations) → modules_of read ms (ds ++ ls) ≡ modules_of read ms ds
   modules-same read ms ds = declared_after read ms ds ls ∙ no-modules read (modules_of read ms ds) ls s
@@ -109,9 +119,23 @@ module _ (ls : Declarations) (s : KeepModules ls) where
           ∙ (λ k. let g : Setting = with_operators t (bare (types_of ds (interpreted w size t cs)) t) ds in
           let r : Setting = record g { procedure = procedure_at (linked-same g cs k) } in r)
 
-      -- declarations that keep modules, and operators that are the same, leave what names mean
-      pub scope-as : SameScope ds (ds ++ ls) w size t u
-      scope-as = record { frame = frame-same; settings = λ cs. sym (setting-as cs) }
+      -- such declarations, and operators that are the same, leave what names mean
+      pub scope-with : SameScope ds (ds ++ ls) w size t u
+      scope-with = record { frame = frame-same; settings = λ cs. sym (setting-as cs) }
+
+keeps-adds : (d : Declaration) → KeepsModules d → AddsNoModule d
+keeps-adds (module_type t) s = s
+keeps-adds (concrete_module m) s = s
+keeps-adds (abstract_module b) s = absurd s
+keeps-adds _ s = tt
+
+keep-add : (ls : Declarations) → KeepModules ls → AddNoModule ls
+keep-add [] s = tt
+keep-add (d ∷ ls) s = (keeps-adds d.1 s.0, keep-add ls s.1)
+
+pub scope-as : (ls : Declarations) → KeepModules ls → (ds : Declarations) (w : World) (size : Name → ℕ) (t u : Table) →
+    ((y : Types) → y.size ≡ size → with_operators u (bare y u) (ds ++ ls) ≡ with_operators t (bare y t) ds) → SameScope ds (ds ++ ls) w size t u
+scope-as ls s ds w size t u e = scope-with ls (keep-add ls s) ds w size t u e
 
 pub silent-keeps : (ls : Declarations) → AreSilent ls → KeepModules ls
 silent-keeps [] s = tt

@@ -40,7 +40,7 @@ pub data Declaration : Type 0 where
   abstract_operator : AbstractOperator → Declaration
   module_type : ModuleType → Declaration
   concrete_module : Module → Declaration
-  -- a module that an open section declares
+  -- a module that an open section declares, or that a lemma binds whose proof is open
   abstract_module : Bind → Declaration
   axiom_of : Sequent → Declaration
   lemma : Sequent → Declaration
@@ -60,6 +60,7 @@ declaration_of entry.AbstractType = abstract_type
 declaration_of (entry.Constant c) = abbreviation (for_value c)
 declaration_of (entry.Operator o) = operator (record { params = o.params; body = o.body })
 declaration_of (entry.ModuleType t) = module_type t
+declaration_of (entry.AbstractModule b) = abstract_module b
 declaration_of (entry.AbstractOperator o) = abstract_operator (record { params = o.params; result = o.result })
 declaration_of (entry.Terminating p) = terminating p
 

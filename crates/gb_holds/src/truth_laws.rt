@@ -5,6 +5,7 @@ ghost use Rattle.gb_terms.specs.declared.term.Term.{Term};
 ghost use Rattle.gb_meaning.specs.Names.{Name};
 ghost use Rattle.gb_meaning.specs.State.{State};
 ghost use Rattle.gb_meaning.specs.Judgments.{IsTrueIn};
+ghost use Rattle.gb_goal.specs.Binders.{binder_entries, with_declared_modules};
 ghost use Rattle.gb_goal.specs.Scope as scope;
 ghost use Rattle.gb_goal.specs.Scope.{ClaimNothing};
 ghost use Rattle.gb_goal.specs.declared.scope.Binder.{Binder};
@@ -54,4 +55,11 @@ pub fn later_statements()
 pub fn renamed_contexts()
     ensures { (ds : Declarations) (q r : Sequent) → q.modules ≡ r.modules → q.hyps ≡ r.hyps → q.conclusion ≡ r.conclusion →
         map (λ x. x.ty) q.logical ≡ map (λ x. x.ty) r.logical → Holds ds q ↔ Holds ds r }
+{}
+
+/// What is true for all programs within abstract modules that are declared is true for all programs within the modules of a goal: a goal
+/// holds where, its modules declared behind the scope, it holds without them.
+pub fn declared_modules()
+    ensures { (ds : scope.Declarations) (q : Sequent) → Holds (declared (ds ++ binder_entries q.modules)) (with_declared_modules q) →
+        Holds (declared ds) q }
 {}

@@ -174,7 +174,7 @@ module _ (ds : Declarations) (scoped : IsTypedScope (declared ds)) (q : Sequent)
     linked : (r : ProcRef) (p : Proc) → procedure_of ds r ≡ Some p → g.procedure r ≡ Some (routine p.params p.locals (statements g p.body.list) p.value)
     linked r p e =
         subst (λ h. h.procedure r ≡ Some (routine p.params p.locals (statements h p.body.list) p.value)) (sym over.meant)
-        (linked_there ds scoped over.interpretation (let x = over.chosen in x.unchosen) r p e)
+        (linked_there ds scoped over.interpretation over.chosen r p e)
 
     many_values : (s : State) (m : Memory) (es : List Term) (ps : List TypedName) → AreArguments c fs es ps → AsMany ps (map (λ e. valued g s e m) es)
     many_values s m [] [] w = tt

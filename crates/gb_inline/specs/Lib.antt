@@ -1,4 +1,5 @@
 pub mod Fresh
+pub mod Taken
 pub mod Renamed
 pub mod Expanded
 pub mod Inlined

@@ -11,7 +11,6 @@ use crate::renamed::{reads_renamed, with_renamed};
 use gb_core::var::Var;
 use gb_core::{Shared, SharedItems};
 use gb_forms::firsts::with_firsts;
-use gb_mods::order::with_variables;
 use gb_terms::decl::{Proc, Typed};
 use gb_terms::share::{copy_typed, share_terms};
 use gb_terms::term::{Instr, Instrs, Term};
@@ -114,7 +113,6 @@ pub fn expanded(
         return Ok(None);
     };
     let procedure = procedure.get();
-    let used = with_variables(alloc, Items::new(alloc), used)?;
     let locals = locals_of(alloc, procedure)?;
     let Some(names) = new_names(alloc, used, locals.as_slice())? else {
         return Ok(None);

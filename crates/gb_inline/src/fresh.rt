@@ -1,16 +1,15 @@
 //! New names of locals.
 
-ghost use Rattle.std.specs.Prelude.{◌≡◌, IfOk};
-ghost use Rattle.std.specs.List.{list_any};
-ghost use Rattle.gb_terms.specs.Equal.{var_eq};
+ghost use Rattle.std.specs.Prelude.{◌≡◌, IfOk, OnOk};
 ghost use Rattle.gb_inline.specs.Fresh as specs;
+ghost use Rattle.gb_inline.specs.Taken.{Adds, AreNamesOf, IsFirstFree};
 
 use gb_core::name::Name;
-use gb_core::same::same_var;
-use gb_core::var::{Var, Vars};
+use gb_core::var::Var;
 use gb_terms::decl::TypedName;
 use sqlite_items::Items;
 use std::alloc::{AllocError, Global};
+use std::collections::HashSet;
 
 /// A local under a new name: its name, and the new one with its type.
 pub struct Renaming {
@@ -36,24 +35,40 @@ fn numbered(alloc: Global, k: u64) -> Result<Name, AllocError>
     Ok(Name::new(text))
 }
 
-/// Whether one of these variables is this one.
-#[tactic(auto, using(gb_terms::proofs::Equality::var_test))]
-fn is_among(list: &[Var], variable: &Var) -> bool
-    ensures { result ≡ list_any (var_eq variable.now) list.now }
+/// Puts a name among others.
+fn add(alloc: Global, names: &mut HashSet<String>, name: &Name) -> Result<(), AllocError>
+    ensures { OnOk result (Adds names.old name.now names.new) }
 {
-    list.iter().any(|x| same_var(variable, x))
+    let text = String::from_str(alloc, name.as_str())?;
+    names.insert(text)?;
+    Ok(())
 }
 
-/// The first of `l0`, `l1`, .. that no local among these variables has.
-#[tactic(auto, using(crate::proofs::FreshSteps::free_here, crate::proofs::FreshSteps::free_next, crate::proofs::FreshSteps::free_over))]
-pub fn free_name(alloc: Global, used: &[Var]) -> Result<Option<Name>, AllocError>
-    ensures { IfOk result (λ made. made ≡ specs.free_name used.now) }
+/// The names of the locals among these variables.
+fn local_names(alloc: Global, used: &[Var]) -> Result<HashSet<String>, AllocError>
+    ensures { IfOk result (λ made. AreNamesOf used.now made) }
 {
-    for k in 0..0x1_0000_0000u64 {
+    let mut names = HashSet::new(alloc);
+    for variable in used {
+        if let Var::Local { name } = variable {
+            add(alloc, &mut names, name)?;
+        }
+    }
+    Ok(names)
+}
+
+/// The first number from one on for which `l` and it is none of these names.
+fn free_number(
+    alloc: Global,
+    taken: &HashSet<String>,
+    first: u64,
+) -> Result<Option<u64>, AllocError>
+    ensures { IfOk result (λ made. IsFirstFree taken.now first made) }
+{
+    for k in first..0x1_0000_0000u64 {
         let name = numbered(alloc, k)?;
-        let same = name.copy(alloc)?;
-        if !is_among(used, &Var::Local { name: same }) {
-            return Ok(Some(name));
+        if !taken.contains(name.as_str()) {
+            return Ok(Some(k));
         }
     }
     Ok(None)
@@ -70,23 +85,24 @@ fn under_name(alloc: Global, local: &TypedName, name: Name) -> Result<Renaming, 
 }
 
 /// Each of these locals under the first new name that neither these variables nor those before it have.
-#[tactic(auto, using(crate::proofs::FreshSteps::names_next, crate::proofs::FreshSteps::names_none, crate::proofs::FreshSteps::names_end))]
 pub fn new_names(
     alloc: Global,
-    used: Vars,
+    used: &[Var],
     list: &[TypedName],
 ) -> Result<Option<Renamings>, AllocError>
-    ensures { IfOk result (λ made. made ≡ specs.new_names used list.now) }
+    ensures { IfOk result (λ made. made ≡ specs.new_names used.now list.now) }
 {
-    let mut known = used;
+    let mut taken = local_names(alloc, used)?;
+    let mut next = 0u64;
     let mut all = Items::new(alloc);
     for local in list {
-        let Some(name) = free_name(alloc, known.as_slice())? else {
+        let Some(k) = free_number(alloc, &taken, next)? else {
             return Ok(None);
         };
-        let taken = name.copy(alloc)?;
-        known.push(Var::Local { name: taken })?;
+        let name = numbered(alloc, k)?;
+        add(alloc, &mut taken, &name)?;
         all.push(under_name(alloc, local, name)?)?;
+        next = k + 1;
     }
     Ok(Some(all))
 }

@@ -135,7 +135,7 @@ module _ (ds : Declarations) (scoped : IsTypedScope (declared ds)) (q : Sequent)
   linked : (g : Setting) → IsSettingOver (declared ds) g → (p : ProcRef) (a : Proc) → procedure_of ds p ≡ Some a → g.procedure p ≡ Some (routine a.params a.locals (statements g a.body.list) a.value)
   linked g over p a e =
       subst (λ h. h.procedure p ≡ Some (routine a.params a.locals (statements h a.body.list) a.value)) (sym over.meant)
-      (linked_there ds scoped over.interpretation (let x = over.chosen in x.unchosen) p a e)
+      (linked_there ds scoped over.interpretation over.chosen p a e)
 
   module _ (o : OneBody) (js : List Instr) (k : IsKilled ds o js) where
     abbrev K : At

@@ -35,6 +35,7 @@ finite_each ((k, entry.Lemma q bs) ∷ ds) before c w h = finite_each ds (before
 finite_each ((k, entry.Type t) ∷ ds) before c w h = let z = declaration_of (entry.Type t) in finite_each ds (before ++ (k, z) ∷ []) (with_declared c k z) w.2 h
 finite_each ((k, entry.AbstractType) ∷ ds) before c w h = let z = declaration_of entry.AbstractType in finite_each ds (before ++ (k, z) ∷ []) (with_declared c k z) w.2 h
 finite_each ((k, entry.ModuleType y) ∷ ds) before c w h = let z = declaration_of (entry.ModuleType y) in finite_each ds (before ++ (k, z) ∷ []) (with_declared c k z) w.2 h
+finite_each ((k, entry.AbstractModule y) ∷ ds) before c w h = let z = declaration_of (entry.AbstractModule y) in finite_each ds (before ++ (k, z) ∷ []) (with_declared c k z) w.2 h
 finite_each ((k, entry.Constant a) ∷ ds) before c w h = let z = declaration_of (entry.Constant a) in finite_each ds (before ++ (k, z) ∷ []) (with_declared c k z) w.2 h
 finite_each ((k, entry.Operator o) ∷ ds) before c w h = let z = declaration_of (entry.Operator o) in finite_each ds (before ++ (k, z) ∷ []) (with_declared c k z) w.2 h
 finite_each ((k, entry.AbstractOperator o) ∷ ds) before c w h = let z = declaration_of (entry.AbstractOperator o) in finite_each ds (before ++ (k, z) ∷ []) (with_declared c k z) w.2 h

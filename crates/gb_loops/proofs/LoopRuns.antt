@@ -37,7 +37,7 @@ use Rattle.gb_loops.proofs.LastLoops.{IsTypedLoop, ends_with, statement_of}
 pub linked : (ds : Declarations) → IsTypedScope (declared ds) → (g : Setting) → IsSettingOver (declared ds) g → (p : ProcRef) (a : Proc) → procedure_of ds p ≡ Some a →
     g.procedure p ≡ Some (routine a.params a.locals (statements g a.body.list) a.value)
 linked ds scoped g over p a e =
-    subst (λ h. h.procedure p ≡ Some (routine a.params a.locals (statements h a.body.list) a.value)) (sym over.meant) (linked_there ds scoped over.interpretation (let x = over.chosen in x.unchosen) p a e)
+    subst (λ h. h.procedure p ≡ Some (routine a.params a.locals (statements h a.body.list) a.value)) (sym over.meant) (linked_there ds scoped over.interpretation over.chosen p a e)
 
 module _ (g : Setting) (is : List Instr) (k : LastLoop) (last : last_loop is ≡ Some k) (ends : LoopsAreGood g (statements g is)) where
   abbrev parts : LoopsAreGood g (statements g k.before) × LoopsAreGood g (statements g (statement_of k ∷ []))

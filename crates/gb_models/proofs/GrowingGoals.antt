@@ -1,5 +1,5 @@
 -- Typed goals stay typed as the scope of a script grows.
-use Rattle.std.proofs.Common.{◌≡◌, Bool, true, false, List, [], ◌∷◌, ◌++◌, Option, Some, None, refl, sym, ◌∙◌, subst}
+use Rattle.std.proofs.Common.{◌≡◌, Bool, true, false, if◌then◌else◌, List, [], ◌∷◌, ◌++◌, Option, Some, None, bytes_eq, refl, sym, subst}
 use Rattle.std.proofs.lemmas.Bool.{false≢true}
 use Rattle.gb_core.specs.declared.ty.Ty.{Ty}
 use Rattle.gb_core.specs.declared.var.Var.{Var}
@@ -158,22 +158,32 @@ each_over ((n, entry.Lemma q order) ∷ es) c = each_over es c
 each_over ((n, entry.Type t) ∷ es) c = each_over es c
 each_over ((n, entry.AbstractType) ∷ es) c = each_over es c
 each_over ((n, entry.ModuleType y) ∷ es) c = each_over es (with_declared c n (declaration_of (entry.ModuleType y)))
+each_over ((n, entry.AbstractModule y) ∷ es) c = each_over es (with_declared c n (declaration_of (entry.AbstractModule y)))
 each_over ((n, entry.Constant a) ∷ es) c = each_over es c
 each_over ((n, entry.Operator o) ∷ es) c = each_over es (with_declared c n (declaration_of (entry.Operator o)))
 each_over ((n, entry.AbstractOperator o) ∷ es) c = each_over es (with_declared c n (declaration_of (entry.AbstractOperator o)))
 each_over ((n, entry.Terminating a) ∷ es) c = each_over es c
 
-same_globals : (es : scope.Declarations) (c : Context) (a : Name) → (with_each c (declared es)).has_globals a ≡ c.has_globals a
-same_globals [] c a = refl
-same_globals ((n, entry.Module m) ∷ es) c a = same_globals es (with_declared c n (concrete_module m)) a
-same_globals ((n, entry.Lemma q order) ∷ es) c a = same_globals es c a
-same_globals ((n, entry.Type t) ∷ es) c a = same_globals es c a
-same_globals ((n, entry.AbstractType) ∷ es) c a = same_globals es c a
-same_globals ((n, entry.ModuleType y) ∷ es) c a = same_globals es (with_declared c n (declaration_of (entry.ModuleType y))) a
-same_globals ((n, entry.Constant k) ∷ es) c a = same_globals es c a
-same_globals ((n, entry.Operator o) ∷ es) c a = same_globals es (with_declared c n (declaration_of (entry.Operator o))) a
-same_globals ((n, entry.AbstractOperator o) ∷ es) c a = same_globals es (with_declared c n (declaration_of (entry.AbstractOperator o))) a
-same_globals ((n, entry.Terminating k) ∷ es) c a = same_globals es c a
+-- a module of which all globals may be read together stays one
+has_more : (n a : Name) (b : Bool) → b ≡ true → (if bytes_eq a n then true else b) ≡ true
+has_more n a b e = step (bytes_eq a n)
+  where
+    step : (c : Bool) → (if c then true else b) ≡ true
+    step true = refl
+    step false = e
+
+more_globals : (es : scope.Declarations) (c : Context) (a : Name) → c.has_globals a ≡ true → (with_each c (declared es)).has_globals a ≡ true
+more_globals [] c a e = e
+more_globals ((n, entry.Module m) ∷ es) c a e = more_globals es (with_declared c n (concrete_module m)) a e
+more_globals ((n, entry.Lemma q order) ∷ es) c a e = more_globals es c a e
+more_globals ((n, entry.Type t) ∷ es) c a e = more_globals es c a e
+more_globals ((n, entry.AbstractType) ∷ es) c a e = more_globals es c a e
+more_globals ((n, entry.ModuleType y) ∷ es) c a e = more_globals es (with_declared c n (declaration_of (entry.ModuleType y))) a e
+more_globals ((n, entry.AbstractModule b) ∷ es) c a e = more_globals es (with_declared c n (declaration_of (entry.AbstractModule b))) a (has_more b.name a (c.has_globals a) e)
+more_globals ((n, entry.Constant k) ∷ es) c a e = more_globals es c a e
+more_globals ((n, entry.Operator o) ∷ es) c a e = more_globals es (with_declared c n (declaration_of (entry.Operator o))) a e
+more_globals ((n, entry.AbstractOperator o) ∷ es) c a e = more_globals es (with_declared c n (declaration_of (entry.AbstractOperator o))) a e
+more_globals ((n, entry.Terminating k) ∷ es) c a e = more_globals es c a e
 
 module _ (ds es : scope.Declarations) (typed : AreTypedAfter nothing [] (declared ds)) (later : AreTypedAfter (context_of (declared ds)) (declared ds) (declared es)) where
   abbrev c : Context
@@ -183,7 +193,7 @@ module _ (ds es : scope.Declarations) (typed : AreTypedAfter nothing [] (declare
   e = with_each c (declared es)
 
   more_known : Grown e c
-  more_known = let g : Grows c e = in_later (declared ds) (declared es) typed later in (g.global, g.operator, g.procedures, λ a h. same_globals es c a ∙ h)
+  more_known = let g : Grows c e = in_later (declared ds) (declared es) typed later in (g.global, g.operator, g.procedures, more_globals es c)
 
   goal_typed : (q : Sequent) → IsTypedSequent c q → IsWithoutModules q → IsTypedSequent e q
   goal_typed q t without = goal_grown c e more_known (each_over es c) q t without

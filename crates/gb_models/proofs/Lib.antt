@@ -12,3 +12,5 @@ pub mod GrowingGoals
 pub mod StayingOn
 pub mod StayingLoops
 pub mod ProvedLoops
+pub mod NamedModules
+pub mod Binders

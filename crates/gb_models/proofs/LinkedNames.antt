@@ -50,7 +50,7 @@ module _ (P : Name → Type 0) where
   -- variables that a typed program writes
 
   module _ (c : Context) (ls : List TypedName) where
-    written : (x : Var) (t : Ty) → variable_type (erased c) ls x ≡ Some t → VariableNames P x
+    pub written : (x : Var) (t : Ty) → variable_type (erased c) ls x ≡ Some t → VariableNames P x
     written (var.Global m x) t e = tt
     written (var.Local x) t e = tt
     written (var.Glob a) t e = none_some t e
@@ -61,12 +61,12 @@ module _ (P : Name → Type 0) where
     each_written (x ∷ xs) [] w = absurd w
     each_written (x ∷ xs) (t ∷ ts) w = (written x t w.0, each_written xs ts w.1)
 
-    taken : (xs : List Var) (t : Ty) → Take (erased c) ls xs t → VariablesName P xs
+    pub taken : (xs : List Var) (t : Ty) → Take (erased c) ls xs t → VariablesName P xs
     taken [] t w = tt
     taken (x ∷ []) t w = (written x t w, tt)
     taken (x ∷ y ∷ xs) t w = each_written (x ∷ y ∷ xs) (parts_in t) w
 
-    taken_called : (xs : List Var) (o : Option ProcedureType) (es : List Term) → IsCall c ls xs o es → VariablesName P xs
+    pub taken_called : (xs : List Var) (o : Option ProcedureType) (es : List Term) → IsCall c ls xs o es → VariablesName P xs
     taken_called xs None es w = absurd w
     taken_called xs (Some t) es w = taken xs t.result w.1
 

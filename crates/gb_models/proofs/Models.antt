@@ -28,20 +28,13 @@ use Rattle.gb_typing.proofs.Variables.{variable_finite}
 use Rattle.gb_typing.proofs.Once.{types_inhabited}
 use Rattle.gb_models.specs.Falsehood.{falsehood}
 use Rattle.gb_models.specs.Promised.{HasModel}
+use Rattle.gb_models.specs.Speaking.{IsFirmScope}
 use Rattle.gb_models.proofs.Falsehood.{no_lemma}
 use Rattle.gb_models.proofs.Globals.{globals_once, globals_variables, world_types, in_own_world}
+use Rattle.gb_models.proofs.Staying.{no_section_in}
 
-pub no_section : (ds : scope.Declarations) → declared_modules (declared ds) ≡ []
-no_section [] = refl
-no_section ((n, entry.Module m) ∷ ds) = no_section ds
-no_section ((n, entry.Lemma q order) ∷ ds) = no_section ds
-no_section ((n, entry.Type t) ∷ ds) = no_section ds
-no_section ((n, entry.AbstractType) ∷ ds) = no_section ds
-no_section ((n, entry.ModuleType y) ∷ ds) = no_section ds
-no_section ((n, entry.Constant a) ∷ ds) = no_section ds
-no_section ((n, entry.Operator o) ∷ ds) = no_section ds
-no_section ((n, entry.AbstractOperator o) ∷ ds) = no_section ds
-no_section ((n, entry.Terminating a) ∷ ds) = no_section ds
+pub no_section : (ds : scope.Declarations) → IsFirmScope ds → declared_modules (declared ds) ≡ []
+no_section ds firm = no_section_in (declared ds) firm
 
 no_axioms : (all : Declarations) (ds : scope.Declarations) (i : Interpretation) → AxiomsAreTrue all (declared ds) i
 no_axioms all [] i = tt
@@ -50,6 +43,7 @@ no_axioms all ((n, entry.Lemma q order) ∷ ds) i = no_axioms all ds i
 no_axioms all ((n, entry.Type t) ∷ ds) i = no_axioms all ds i
 no_axioms all ((n, entry.AbstractType) ∷ ds) i = no_axioms all ds i
 no_axioms all ((n, entry.ModuleType y) ∷ ds) i = no_axioms all ds i
+no_axioms all ((n, entry.AbstractModule y) ∷ ds) i = no_axioms all ds i
 no_axioms all ((n, entry.Constant a) ∷ ds) i = no_axioms all ds i
 no_axioms all ((n, entry.Operator o) ∷ ds) i = no_axioms all ds i
 no_axioms all ((n, entry.AbstractOperator o) ∷ ds) i = no_axioms all ds i
@@ -115,6 +109,7 @@ module _ (all : Declarations) (ts : Types) (inhabited : IsInhabited ts) where
   results ((n, entry.Type t) ∷ ds) before c w e = results ds _ _ w.2 (append_assoc before _ (declared ds) ∙ e)
   results ((n, entry.AbstractType) ∷ ds) before c w e = results ds _ _ w.2 (append_assoc before _ (declared ds) ∙ e)
   results ((n, entry.ModuleType y) ∷ ds) before c w e = results ds _ _ w.2 (append_assoc before _ (declared ds) ∙ e)
+  results ((n, entry.AbstractModule y) ∷ ds) before c w e = results ds _ _ w.2 (append_assoc before _ (declared ds) ∙ e)
   results ((n, entry.Constant a) ∷ ds) before c w e = results ds _ _ w.2 (append_assoc before _ (declared ds) ∙ e)
   results ((n, entry.Operator o) ∷ ds) before c w e = results ds _ _ w.2 (append_assoc before _ (declared ds) ∙ e)
   results ((n, entry.AbstractOperator o) ∷ ds) before c w e =
@@ -149,5 +144,5 @@ model ds t =
       },
     )
 
-pub no_falsehood : (ds : scope.Declarations) → IsTypedScope (declared ds) → ¬ (Holds (declared ds) falsehood)
-no_falsehood ds t = let m = model ds t in no_lemma (declared ds) m.0 m.1 m.2 m.3 (no_section ds)
+pub no_falsehood : (ds : scope.Declarations) → IsTypedScope (declared ds) → IsFirmScope ds → ¬ (Holds (declared ds) falsehood)
+no_falsehood ds t firm = let m = model ds t in no_lemma (declared ds) m.0 m.1 m.2 m.3 (no_section ds firm)

@@ -1,6 +1,5 @@
 -- Loops that are proved are good in each model of a sound scope.
 use Rattle.std.proofs.Common.{◌≡◌, Bool, true, false, ◌||◌, if◌then◌else◌, List, [], ◌∷◌, ◌++◌, Option, Some, None, bytes_eq, refl, ap, sym, ◌∙◌, subst}
-use Rattle.std.specs.Option.{option_map}
 use Rattle.std.proofs.lemmas.Bool.{and_parts, false≢true}
 use Rattle.std.proofs.lemmas.List.{append_assoc, append-nil}
 use Rattle.std.proofs.lemmas.Option.{same_Some}
@@ -14,6 +13,7 @@ use Rattle.gb_goal.specs.declared.scope.ProcName.{ProcName}
 use Rattle.gb_goal.specs.Interfaces.{of_module as interface_from}
 use Rattle.gb_goal.specs.Scope as scope
 use Rattle.gb_goal.specs.Scope.{as_module, entry_of, is_proof_for, is_proved, is_the_same, module_of, path_of, proc_in, proc_of}
+use Rattle.gb_goal.proofs.Interfaces.{declared_module}
 use Rattle.gb_meaning.specs.Commands.{statements}
 use Rattle.gb_meaning.specs.Names.{Name}
 use Rattle.gb_holds.specs.Declared.{Declarations, Declaration, ModuleType, declared, terminating}
@@ -25,7 +25,7 @@ use Rattle.gb_typing.specs.Formulas.{IsKnown}
 use Rattle.gb_typing.specs.Modules.{Interface}
 use Rattle.gb_typing.specs.Scopes.{AreTypedAfter, HasProcedure, IsTypedScope, context_of, interface_with, is_declared, nothing, procedure_types}
 use Rattle.gb_typing.proofs.Located.{known_in_scope}
-use Rattle.gb_models.specs.Speaking.{ScopeSpeaks}
+use Rattle.gb_models.specs.Speaking.{IsFirmScope, ScopeSpeaks}
 use Rattle.gb_models.proofs.LinkedNames.{none_some}
 use Rattle.gb_models.proofs.Staying.{split}
 use Rattle.gb_models.proofs.StayingLoops.{IsOf, found_named_of, loops_stay_by, module_there}
@@ -66,6 +66,7 @@ proof_is p (Some (entry.Lemma q bs)) e = absurd (false≢true e)
 proof_is p (Some (entry.Type t)) e = absurd (false≢true e)
 proof_is p (Some entry.AbstractType) e = absurd (false≢true e)
 proof_is p (Some (entry.ModuleType y)) e = absurd (false≢true e)
+proof_is p (Some (entry.AbstractModule y)) e = absurd (false≢true e)
 proof_is p (Some (entry.Constant k)) e = absurd (false≢true e)
 proof_is p (Some (entry.Operator o)) e = absurd (false≢true e)
 proof_is p (Some (entry.AbstractOperator o)) e = absurd (false≢true e)
@@ -111,19 +112,34 @@ module _ (ds : scope.Declarations) (scoped : IsTypedScope (declared ds)) (p : Pr
   plain_there : (m : Module) → module_of ds p.module ≡ Some m → m.params ≡ []
   plain_there m e =
       let c = context_of (declared x.before) in
-      let known = known_in_scope x.before parted.0 p.module (interface_from m) (ap (option_map interface_from) (found_before ∙ e)) in
+      let known = known_in_scope x.before parted.0 p.module (interface_from m) (declared_module x.before p.module m (found_before ∙ e)) in
       lacks_none c.modules.types m.params m.procs p.name (subst (λ o. HasProcedure o p.name) known parted.1.1)
 
 -- a procedure whose loops are proved is one of a module without parameters
 pub proved_plain : (ds : scope.Declarations) → IsTypedScope (declared ds) → (p : ProcName) → is_proved ds p ≡ true → (m : Module) → module_of ds p.module ≡ Some m → m.params ≡ []
 proved_plain ds scoped p e = plain_there ds scoped p (placed ds (path_of p) (entry.Terminating p) (proof_is p (entry_of ds (path_of p)) e))
 
-module _ (ds : scope.Declarations) (scoped : IsTypedScope (declared ds)) (sound : IsSound (declared ds)) (spoken : ScopeSpeaks NoName (declared ds)) (p : ProcName) (a : Proc)
+-- the loops of a procedure are good in each model where they are said to be
+module _ (ds : scope.Declarations) (n f : Name) (a : Proc) (there : proc_in (module_of ds n) f ≡ Some a) (h : IsTerminating (declared ds) n f) where
+  abbrev IsGoodAt : Option Proc → Interpretation → Type 0
+  IsGoodAt o k = ProcedureIsGood (setting (declared ds) k) o
+
+  of_module : IsOf (module_of ds n) f a → InEachModel (declared ds) (IsGoodAt (Some a))
+  of_module x =
+      subst (λ o. InEachModel (declared ds) (IsGoodAt o)) x.procedure
+      (subst (λ xs. InEachModel (declared ds) (λ i. EachArgument (declared ds) xs i (IsGoodAt (proc_of x.owner.procs f)))) x.plain
+      (subst (λ o. ProcedureOfIsGood (declared ds) o f) (found_named_of ds n x.owner x.there) h))
+
+  pub good_loops : InEachModel (declared ds) (λ i. LoopsAreGood (setting (declared ds) i) (statements (setting (declared ds) i) a.body.list))
+  good_loops = of_module (module_there (module_of ds n) f a there)
+
+module _ (ds : scope.Declarations) (scoped : IsTypedScope (declared ds)) (firm : IsFirmScope ds) (sound : IsSound (declared ds)) (spoken : ScopeSpeaks NoName (declared ds)) (p : ProcName) (a : Proc)
     (there : proc_in (module_of ds p.module) p.name ≡ Some a) where
   at_place : IsPlaced ds (path_of p) (entry.Terminating p) → IsTerminating (declared ds) p.module p.name
   at_place x =
       subst (λ z. IsTerminating (declared z) p.module p.name) (sym x.place)
-      (loops_stay_by (behind ds scoped p x) x.before (subst (λ z. IsTypedScope (declared z)) x.place scoped) (subst (λ z. ScopeSpeaks NoName (declared z)) x.place spoken) p.module p.name a before_there proved)
+      (loops_stay_by (behind ds scoped p x) x.before (subst (λ z. IsTypedScope (declared z)) x.place scoped) (subst IsFirmScope x.place firm)
+      (subst (λ z. ScopeSpeaks NoName (declared z)) x.place spoken) p.module p.name a before_there proved)
     where
       proved : IsTerminating (declared x.before) p.module p.name
       proved = promised (declared x.before) (declared x.after) (path_of p, terminating p) [] (subst IsSound (same ds scoped p x) sound)
@@ -131,17 +147,9 @@ module _ (ds : scope.Declarations) (scoped : IsTypedScope (declared ds)) (sound 
       before_there : proc_in (module_of x.before p.module) p.name ≡ Some a
       before_there = ap (λ o. proc_in o p.name) (found_before ds scoped p x) ∙ there
 
+  pub proved_ends : is_proved ds p ≡ true → IsTerminating (declared ds) p.module p.name
+  proved_ends e = at_place (placed ds (path_of p) (entry.Terminating p) (proof_is p (entry_of ds (path_of p)) e))
+
   -- the loops of a procedure that is proved are good in each model
-  module _ (h : IsTerminating (declared ds) p.module p.name) where
-    abbrev IsGoodAt : Option Proc → Interpretation → Type 0
-    IsGoodAt o k = ProcedureIsGood (setting (declared ds) k) o
-
-    of_module : IsOf (module_of ds p.module) p.name a → InEachModel (declared ds) (IsGoodAt (Some a))
-    of_module x =
-        subst (λ o. InEachModel (declared ds) (IsGoodAt o)) x.procedure
-        (subst (λ xs. InEachModel (declared ds) (λ i. EachArgument (declared ds) xs i (IsGoodAt (proc_of x.owner.procs p.name)))) x.plain
-        (subst (λ o. ProcedureOfIsGood (declared ds) o p.name) (found_named_of ds p.module x.owner x.there) h))
-
   pub proved_good : is_proved ds p ≡ true → InEachModel (declared ds) (λ i. LoopsAreGood (setting (declared ds) i) (statements (setting (declared ds) i) a.body.list))
-  proved_good e =
-      of_module (at_place (placed ds (path_of p) (entry.Terminating p) (proof_is p (entry_of ds (path_of p)) e))) (module_there (module_of ds p.module) p.name a there)
+  proved_good e = good_loops ds p.module p.name a there (proved_ends e)

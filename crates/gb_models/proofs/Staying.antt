@@ -7,14 +7,12 @@ use Rattle.gb_terms.specs.declared.module.ProcRef.{ProcRef}
 use Rattle.gb_terms.specs.declared.op.Op.TheVariants as op
 use Rattle.gb_terms.specs.declared.term.Term.{Term, Term', end_of-Head, more_of-Head}
 use Rattle.gb_terms.specs.declared.term.Head.TheVariants as head
-use Rattle.gb_goal.specs.declared.scope.Entry.TheVariants as entry
 use Rattle.gb_goal.specs.declared.sequent.Hyp.{Hyp}
 use Rattle.gb_goal.specs.declared.sequent.Sequent.{Sequent}
-use Rattle.gb_goal.specs.Scope as scope
 use Rattle.gb_meaning.specs.Names.{Name}
 use Rattle.gb_meaning.specs.Setting.{Setting}
 use Rattle.gb_meaning.specs.Values.{World}
-use Rattle.gb_holds.specs.Declared.{Declarations, Declaration, declared, abstract_type, abbreviation, operator, abstract_operator, module_type, concrete_module, abstract_module, axiom_of, lemma, terminating}
+use Rattle.gb_holds.specs.Declared.{Declarations, Declaration, abstract_type, abbreviation, operator, abstract_operator, module_type, concrete_module, abstract_module, axiom_of, lemma, terminating}
 use Rattle.gb_holds.specs.Holds.{EachProgram, IsModel, interpretation, declared_modules, EachDeclared, Holds}
 use Rattle.gb_holds.specs.Naming.{AnyName, IsFresh}
 use Rattle.gb_holds.specs.Settings.{Table, Interpretation, setting}
@@ -23,6 +21,7 @@ use Rattle.gb_typing.specs.Added.{IsSequentApartIn}
 use Rattle.gb_typing.specs.Formed.{AreFormedBinds, AreAxiomsApart, IsSaidApart, IsApartFormula, AreHypsApart, SaysApart, IsSequentApart, IsScopeApart}
 use Rattle.gb_typing.specs.Naming.{NoName, IsKept, NamesIfThere, TermNames, AreModulesOrStatements, OperatorNames, OperatorsName}
 use Rattle.gb_typing.proofs.KeptNames.{each-name}
+use Rattle.gb_typing.proofs.Known.{fresh_later}
 use Rattle.gb_typing.proofs.ModulesAdded.{goes-with}
 use Rattle.gb_typing.proofs.SequentsAlike.{holds-along}
 use Rattle.gb_typing.specs.Context.{Context}
@@ -82,19 +81,6 @@ other_name before k n e f = step (bytes_eq k n) refl
     step false q = refl
     step true q = absurd (false≢true (sym f ∙ sym (ap (is_declared before) ((bytes_eq-Decides k n).0 q)) ∙ e))
 
-fresh_behind : (es before : Declarations) (c : Context) → EachDeclared IsModuleOrLemma es → AreTypedAfter c before es → (k : Name) → is_declared before k ≡ true → IsFresh es k
-fresh_behind [] before c y w k e = tt
-fresh_behind ((n, concrete_module m) ∷ es) before c y w k e = (other_name before k n e w.0, fresh_behind es _ _ y.1 w.2 k (declared_more before _ k e))
-fresh_behind ((n, module_type t) ∷ es) before c y w k e = (other_name before k n e w.0, fresh_behind es _ _ y.1 w.2 k (declared_more before _ k e))
-fresh_behind ((n, lemma q) ∷ es) before c y w k e = (other_name before k n e w.0, fresh_behind es _ _ y.1 w.2 k (declared_more before _ k e))
-fresh_behind ((n, abstract_type) ∷ es) before c y w k e = absurd y.0
-fresh_behind ((n, abbreviation stood) ∷ es) before c y w k e = absurd y.0
-fresh_behind ((n, operator o) ∷ es) before c y w k e = absurd y.0
-fresh_behind ((n, abstract_operator o) ∷ es) before c y w k e = absurd y.0
-fresh_behind ((n, abstract_module b) ∷ es) before c y w k e = absurd y.0
-fresh_behind ((n, axiom_of q) ∷ es) before c y w k e = absurd y.0
-fresh_behind ((n, terminating f) ∷ es) before c y w k e = absurd y.0
-
 -- a scope knows no module but those that are declared
 
 abbrev pub AllDeclared : Declarations → Context → Type 0
@@ -132,7 +118,7 @@ known_declared (d ∷ ds) before c w k n i =
 
 -- scopes without axioms and open sections
 
-no_section_in : (ds : Declarations) → EachDeclared IsFirm ds → declared_modules ds ≡ []
+pub no_section_in : (ds : Declarations) → EachDeclared IsFirm ds → declared_modules ds ≡ []
 no_section_in [] y = refl
 no_section_in ((n, abstract_module b) ∷ ds) y = absurd y.0
 no_section_in ((n, abstract_type) ∷ ds) y = no_section_in ds y.1
@@ -201,7 +187,7 @@ scope_apart es ds typed firm = record {
   axioms = λ w size table h. no_axioms es ds ds (interpretation w size table) firm;
 }
 
-module _ (ds es : Declarations) (typed : IsTypedScope ds) (later : AreTypedAfter (context_of ds) ds es) (firm : EachDeclared IsFirm ds) (added : EachDeclared IsModuleOrLemma es)
+module _ (ds es : Declarations) (typed : IsTypedScope ds) (later : AreTypedAfter (context_of ds) ds es) (firm : EachDeclared IsFirm ds)
     (q : Sequent) (t : IsTypedSequent (context_of ds) q) (without : IsWithoutModules q) (spoken : ScopeSpeaks (IsKept es []) ds) (says : GoalSpeaks (IsKept es []) q) where
   abbrev Kept : Name → Type 0
   Kept = IsKept es []
@@ -211,7 +197,7 @@ module _ (ds es : Declarations) (typed : IsTypedScope ds) (later : AreTypedAfter
 
   kept : (n : Name) → IsKnown (c.modules.interfaces n) → Kept n
   kept n k =
-      inl (fresh_behind es ds (context_of ds) added later n
+      inl (fresh_later es ds (context_of ds) later n
       (known_declared ds [] nothing typed (λ m x. absurd x) n (subst (λ bs. IsKnown ((with_modules (context_of ds) bs).modules.interfaces n)) without.modules k)))
 
   module _ (w : World) (size : Name → ℕ) (table : Table) (model : IsModel ds (interpretation w size table)) where
@@ -260,25 +246,11 @@ module _ (ds es : Declarations) (typed : IsTypedScope ds) (later : AreTypedAfter
   apart w size table model =
       subst (λ bs. EachProgram ds bs (interpretation w size table) (IsSequentApart es ds q)) (sym (no_section_in ds firm)) (sequent_apart w size table model)
 
-  stays : Holds ds q → Holds (ds ++ es) q
-  stays h = holds-along es ds (goes-with ds es (modules_or_statements es added) (scope_apart es ds typed firm)) q apart h
+  stays : EachDeclared IsModuleOrLemma es → Holds ds q → Holds (ds ++ es) q
+  stays added h = holds-along es ds (goes-with ds es (modules_or_statements es added) (scope_apart es ds typed firm)) q apart h
 
 pub goal_stays : (ds es : Declarations) → IsTypedScope (ds ++ es) → EachDeclared IsFirm ds → EachDeclared IsModuleOrLemma es → (q : Sequent) → IsTypedSequent (context_of ds) q →
     IsWithoutModules q → ScopeSpeaks (IsFresh es) ds → GoalSpeaks (IsFresh es) q → Holds ds q → Holds (ds ++ es) q
 goal_stays ds es scoped firm added q t without k s h =
     let w = split ds es [] nothing scoped in
-    stays ds es w.0 w.1 firm added q t without (more_scope (IsFresh es) (IsKept es []) (λ n f. inl f) ds k) (more_goal (IsFresh es) (IsKept es []) (λ n f. inl f) q s) h
-
--- Scripts.
-
-pub all_firm : (ds : scope.Declarations) → EachDeclared IsFirm (declared ds)
-all_firm [] = tt
-all_firm ((n, entry.Module m) ∷ ds) = (tt, all_firm ds)
-all_firm ((n, entry.Lemma q order) ∷ ds) = (tt, all_firm ds)
-all_firm ((n, entry.Type t) ∷ ds) = (tt, all_firm ds)
-all_firm ((n, entry.AbstractType) ∷ ds) = (tt, all_firm ds)
-all_firm ((n, entry.ModuleType y) ∷ ds) = (tt, all_firm ds)
-all_firm ((n, entry.Constant a) ∷ ds) = (tt, all_firm ds)
-all_firm ((n, entry.Operator o) ∷ ds) = (tt, all_firm ds)
-all_firm ((n, entry.AbstractOperator o) ∷ ds) = (tt, all_firm ds)
-all_firm ((n, entry.Terminating a) ∷ ds) = (tt, all_firm ds)
+    stays ds es w.0 w.1 firm q t without (more_scope (IsFresh es) (IsKept es []) (λ n f. inl f) ds k) (more_goal (IsFresh es) (IsKept es []) (λ n f. inl f) q s) added h

@@ -16,7 +16,7 @@ use Rattle.gb_meaning.specs.Setting.{Setting}
 use Rattle.gb_meaning.specs.Values.{World}
 use Rattle.gb_holds.specs.Declared.{Declarations, Declaration, declaration_of, declared, concrete_module, module_type, module_in, module_named}
 use Rattle.gb_holds.specs.Holds.{EachArgument, EachProgram, InEachModel, IsTerminating, interpretation}
-use Rattle.gb_holds.specs.Naming.{AnyName}
+use Rattle.gb_holds.specs.Naming.{AnyName, IsFresh}
 use Rattle.gb_holds.specs.Settings.{Table, setting}
 use Rattle.gb_holds.proofs.Lists.{declared-append, declared-module}
 use Rattle.gb_typing.specs.Added.{AreLoopsApart, AreParamsApart, IsAdded, IsBodyApart, IsProcedureApart}
@@ -30,12 +30,12 @@ use Rattle.gb_typing.specs.Scopes.{AreTypedAfter, IsDeclared, IsFree, IsTypedSco
 use Rattle.gb_typing.specs.Sequents.{of_sequent}
 use Rattle.gb_typing.proofs.Located.{IsTypedThere, typed_there}
 use Rattle.gb_models.specs.Falsehood.{falsehood}
-use Rattle.gb_models.specs.Speaking.{BodySpeaks, DeclarationSpeaks, ProceduresSpeak, ScopeSpeaks}
+use Rattle.gb_models.specs.Speaking.{BodySpeaks, DeclarationSpeaks, IsFirm, IsFirmScope, ProceduresSpeak, ScopeSpeaks}
 use Rattle.gb_models.proofs.LinkedNames.{body_names, none_some, procedures_in}
 use Rattle.gb_models.proofs.Models.{no_section}
 use Rattle.gb_models.proofs.MoreNames.{more_scope, parts}
 use Rattle.gb_models.proofs.NamedForms.{Procedures, each_known, reference_known}
-use Rattle.gb_models.proofs.Staying.{all_firm, other_name, scope_apart, split}
+use Rattle.gb_models.proofs.Staying.{other_name, scope_apart, split}
 use Rattle.gb_models.proofs.StayingOn.{knows, new_operator}
 
 -- The module of a procedure that is declared.
@@ -98,7 +98,7 @@ module _ (P : Name → Type 0) where
       step true e go = one_speaks d.1 m k.0 e
       step false e go = go e
 
-module _ (ds : scope.Declarations) (scoped : IsTypedScope (declared ds)) (spoken : ScopeSpeaks NoName (declared ds)) (n f : Name) (a : Proc) (there : proc_in (module_of ds n) f ≡ Some a) where
+module _ (ds : scope.Declarations) (scoped : IsTypedScope (declared ds)) (firm : IsFirmScope ds) (spoken : ScopeSpeaks NoName (declared ds)) (n f : Name) (a : Proc) (there : proc_in (module_of ds n) f ≡ Some a) where
   abbrev c : Context
   c = of_sequent (context_of (declared ds)) falsehood []
 
@@ -114,16 +114,13 @@ module _ (ds : scope.Declarations) (scoped : IsTypedScope (declared ds)) (spoken
   found_named : module_named (declared ds) n ≡ Some found.owner
   found_named = found_named_of ds n found.owner found.there
 
-  -- a declaration of a new name
-  module _ (k : Name) (d : Declaration) (free : is_declared (declared ds) k ≡ false) where
-    abbrev es : Declarations
-    es = (k, d) ∷ []
-
+  -- declarations of new names
+  module _ (es : Declarations) (fresh : (k : Name) → is_declared (declared ds) k ≡ true → IsFresh es k) where
     abbrev Kept : Name → Type 0
     Kept = IsKept es []
 
     kept : (x : Name) → IsKnown (c.modules.interfaces x) → Kept x
-    kept x h = inl (other_name (declared ds) x k ((knows (declared ds) scoped).0 x h) free, tt)
+    kept x h = inl (fresh x ((knows (declared ds) scoped).0 x h))
 
     spoken_kept : ScopeSpeaks Kept (declared ds)
     spoken_kept = more_scope NoName Kept (λ x e. absurd e) (declared ds) spoken
@@ -150,37 +147,52 @@ module _ (ds : scope.Declarations) (scoped : IsTypedScope (declared ds)) (spoken
     plain_apart xs o p q =
         subst (λ xs. AreParamsApart es (declared ds) xs × InEachModel (declared ds) (λ i. EachArgument (declared ds) xs i (IsBodyApart es (declared ds) o))) p
         (subst (λ o. AreParamsApart es (declared ds) [] × InEachModel (declared ds) (IsBodyApart es (declared ds) o)) q
-        (tt, λ w size table model. subst (λ bs. EachProgram (declared ds) bs (interpretation w size table) (IsBodyApart es (declared ds) (Some a))) (sym (no_section ds)) (body_apart w size table)))
+        (tt, λ w size table model. subst (λ bs. EachProgram (declared ds) bs (interpretation w size table) (IsBodyApart es (declared ds) (Some a))) (sym (no_section ds firm)) (body_apart w size table)))
 
-    loops_apart : AreLoopsApart n f es (declared ds)
+    pub loops_apart : AreLoopsApart n f es (declared ds)
     loops_apart = (
       named_front (declared ds) es n found.owner found_named ∙ sym found_named,
       subst (λ o. IsProcedureApart es (declared ds) o f) (sym found_named) (plain_apart found.owner.params (proc_of found.owner.procs f) (sym found.plain) (sym found.procedure)),
     )
 
-  one_added : (k : Name) (e : Entry) → IsFree (declared ds) k → IsDeclared (context_of (declared ds)) k (declaration_of e) → IsAdded (AreLoopsApart n f) (declared ds) k (declaration_of e)
-  one_added k (entry.Module m) free w = (scope_apart ((k, concrete_module m) ∷ []) (declared ds) scoped (all_firm ds), loops_apart k (concrete_module m) free)
-  one_added k (entry.Operator o) free w = new_operator (declared ds) scoped k (declaration_of (entry.Operator o)) free w
-  one_added k (entry.AbstractOperator o) free w = new_operator (declared ds) scoped k (declaration_of (entry.AbstractOperator o)) free w
-  one_added k (entry.Lemma q order) free w = tt
-  one_added k (entry.Type t) free w = tt
-  one_added k entry.AbstractType free w = tt
-  one_added k (entry.ModuleType y) free w = (scope_apart ((k, module_type y) ∷ []) (declared ds) scoped (all_firm ds), loops_apart k (module_type y) free)
-  one_added k (entry.Constant t) free w = tt
-  one_added k (entry.Terminating p) free w = tt
+  -- one declaration of a new name
+  module _ (k : Name) (free : IsFree (declared ds) k) where
+    one_fresh : (d : Declaration) (x : Name) → is_declared (declared ds) x ≡ true → IsFresh ((k, d) ∷ []) x
+    one_fresh d x e = (other_name (declared ds) x k e free, tt)
+
+    one_added : (e : Entry) → IsFirm (declaration_of e) → IsDeclared (context_of (declared ds)) k (declaration_of e) → IsAdded (AreLoopsApart n f) (declared ds) k (declaration_of e)
+    one_added (entry.Module m) y w = (scope_apart ((k, concrete_module m) ∷ []) (declared ds) scoped firm, loops_apart ((k, concrete_module m) ∷ []) (one_fresh (concrete_module m)))
+    one_added (entry.Operator o) y w = new_operator (declared ds) scoped k (declaration_of (entry.Operator o)) free w
+    one_added (entry.AbstractOperator o) y w = new_operator (declared ds) scoped k (declaration_of (entry.AbstractOperator o)) free w
+    one_added (entry.Lemma q order) y w = tt
+    one_added (entry.Type t) y w = tt
+    one_added entry.AbstractType y w = tt
+    one_added (entry.ModuleType t) y w = (scope_apart ((k, module_type t) ∷ []) (declared ds) scoped firm, loops_apart ((k, module_type t) ∷ []) (one_fresh (module_type t)))
+    one_added (entry.AbstractModule b) y w = absurd y
+    one_added (entry.Constant t) y w = tt
+    one_added (entry.Terminating p) y w = tt
+
+pub firm_parts : (ds es : scope.Declarations) → IsFirmScope (ds ++ es) → IsFirmScope ds × IsFirmScope es
+firm_parts [] es k = (tt, k)
+firm_parts (d ∷ ds) es k = let r = firm_parts ds es k.1 in ((k.0, r.0), r.1)
 
 -- Proved loops of a declared procedure stay good.
-pub loops_stay_by : (more ds : scope.Declarations) → IsTypedScope (declared (ds ++ more)) → ScopeSpeaks NoName (declared (ds ++ more)) → (n f : Name) (a : Proc) → proc_in (module_of ds n) f ≡ Some a →
-    IsTerminating (declared ds) n f → IsTerminating (declared (ds ++ more)) n f
-loops_stay_by [] ds w k n f a e h = subst (λ z. IsTerminating (declared z) n f) (sym (append-nil ds)) h
-loops_stay_by (d ∷ more) ds w k n f a e h =
+pub loops_stay_by : (more ds : scope.Declarations) → IsTypedScope (declared (ds ++ more)) → IsFirmScope (ds ++ more) → ScopeSpeaks NoName (declared (ds ++ more)) → (n f : Name) (a : Proc) →
+    proc_in (module_of ds n) f ≡ Some a → IsTerminating (declared ds) n f → IsTerminating (declared (ds ++ more)) n f
+loops_stay_by [] ds w y k n f a e h = subst (λ z. IsTerminating (declared z) n f) (sym (append-nil ds)) h
+loops_stay_by (d ∷ more) ds w y k n f a e h =
     subst (λ z. IsTerminating (declared z) n f) same
-    (loops_stay_by more (ds ++ d ∷ []) (subst (λ z. IsTypedScope (declared z)) (sym same) w) (subst (λ z. ScopeSpeaks NoName (declared z)) (sym same) k) n f a (of_front ds (d ∷ []) n f a e)
+    (loops_stay_by more (ds ++ d ∷ []) (subst (λ z. IsTypedScope (declared z)) (sym same) w) (subst IsFirmScope (sym same) y) (subst (λ z. ScopeSpeaks NoName (declared z)) (sym same) k) n f a
+    (of_front ds (d ∷ []) n f a e)
     (subst (λ z. IsTerminating z n f) (sym (declared-append ds (d ∷ [])))
-    (loops-added (declared ds) ((d.0, declaration_of d.1) ∷ []) n f (one_added ds parted.0 (let s = parts NoName ds (d ∷ more) in (s.0 k).0) n f a e d.0 d.1 parted.1.0 parted.1.1, tt) h)))
+    (loops-added (declared ds) ((d.0, declaration_of d.1) ∷ []) n f
+    (one_added ds parted.0 firm.0 (let s = parts NoName ds (d ∷ more) in (s.0 k).0) n f a e d.0 parted.1.0 d.1 firm.1.0 parted.1.1, tt) h)))
   where
     same : (ds ++ d ∷ []) ++ more ≡ ds ++ d ∷ more
     same = append_assoc ds (d ∷ []) more
+
+    firm : IsFirmScope ds × IsFirmScope (d ∷ more)
+    firm = firm_parts ds (d ∷ more) y
 
     parted : IsTypedScope (declared ds) × (IsFree (declared ds) d.0 × IsDeclared (context_of (declared ds)) d.0 (declaration_of d.1) × AreTypedAfter (with_declared (context_of (declared ds)) d.0 (declaration_of d.1)) (declared ds ++ (d.0, declaration_of d.1) ∷ []) (declared more))
     parted = split (declared ds) (declared (d ∷ more)) [] nothing (subst IsTypedScope (declared-append ds (d ∷ more)) w)

@@ -28,13 +28,13 @@ use Rattle.gb_typing.specs.Scopes.{nothing, operator_type, of_operator, interfac
 use Rattle.gb_typing.specs.Sequents.{IsTypedSequent}
 use Rattle.gb_typing.specs.Typing.{IsThere, first, middle, last, IsTyped, AreTyped}
 use Rattle.gb_typing.proofs.Globals.{or_false}
-use Rattle.gb_models.specs.Speaking.{DeclarationSpeaks, ScopeSpeaks, GoalSpeaks, IsWithoutModules, IsFirm}
+use Rattle.gb_models.specs.Speaking.{DeclarationSpeaks, ScopeSpeaks, GoalSpeaks, IsWithoutModules, IsFirm, IsFirmScope}
 use Rattle.gb_models.proofs.Growing.{over, Grown}
 use Rattle.gb_models.proofs.GrowingGoals.{each_append, goal_grown}
 use Rattle.gb_models.proofs.LinkedNames.{none_some, variables_apart, measured_apart}
 use Rattle.gb_models.proofs.MoreNames.{more_scope, more_goal}
 use Rattle.gb_models.proofs.NamedForms.{AllKnown, given_known, interface_known}
-use Rattle.gb_models.proofs.Staying.{split, all_firm, AllDeclared, declared_more, declared_last, other_name, one_declared, scope_apart, apart}
+use Rattle.gb_models.proofs.Staying.{split, AllDeclared, declared_more, declared_last, other_name, one_declared, scope_apart, apart}
 use mathlib.Core.Former.{Count}
 
 -- What a context knows is declared.
@@ -222,12 +222,12 @@ module _ (q : Sequent) (without : IsWithoutModules q) (says : GoalSpeaks NoName 
         let es : Declarations = (n, concrete_module m) ∷ [] in
         let k = more_scope NoName (IsKept es []) (λ n f. absurd f) ds spoken in
         let g = more_goal NoName (IsKept es []) (λ n f. absurd f) q says in
-        (scope_apart es ds typed firm, apart ds es typed (free, w, tt) firm (tt, tt) q t without k g)
+        (scope_apart es ds typed firm, apart ds es typed (free, w, tt) firm q t without k g)
     one_added n (module_type m) y free w =
         let es : Declarations = (n, module_type m) ∷ [] in
         let k = more_scope NoName (IsKept es []) (λ n f. absurd f) ds spoken in
         let g = more_goal NoName (IsKept es []) (λ n f. absurd f) q says in
-        (scope_apart es ds typed firm, apart ds es typed (free, w, tt) firm (tt, tt) q t without k g)
+        (scope_apart es ds typed firm, apart ds es typed (free, w, tt) firm q t without k g)
     one_added n (abstract_module b) y free w = absurd y
     one_added n (axiom_of p) y free w = absurd y
     one_added n abstract_type y free w = tt
@@ -264,10 +264,10 @@ goal_stays_on ds es scoped firm q t without spoken says h =
     all-added ds es q (added_to q without says es ds w.0 w.1 f.0 f.1 k.0 k.1 t) h
 
 -- Scripts.
-pub script_stays : (ds es : scope.Declarations) → IsTypedScope (declared (ds ++ es)) → (q : Sequent) → IsTypedSequent (context_of (declared ds)) q → IsWithoutModules q →
+pub script_stays : (ds es : scope.Declarations) → IsTypedScope (declared (ds ++ es)) → IsFirmScope (ds ++ es) → (q : Sequent) → IsTypedSequent (context_of (declared ds)) q → IsWithoutModules q →
     ScopeSpeaks NoName (declared (ds ++ es)) → GoalSpeaks NoName q → Holds (declared ds) q → Holds (declared (ds ++ es)) q
-script_stays ds es scoped q t without k s h =
+script_stays ds es scoped firm q t without k s h =
     let a = declared-append ds es in
     subst (λ z. Holds z q) (sym a)
-    (goal_stays_on (declared ds) (declared es) (subst IsTypedScope a scoped) (subst (EachDeclared IsFirm) a (all_firm (ds ++ es))) q t without
+    (goal_stays_on (declared ds) (declared es) (subst IsTypedScope a scoped) (subst (EachDeclared IsFirm) a firm) q t without
     (subst (ScopeSpeaks NoName) a k) s h)

@@ -3,6 +3,7 @@ use Rattle.std.specs.Prelude.{ℕ, List, [], ◌∷◌, map}
 use Rattle.gb_core.specs.declared.ty.Ty.TheVariants.{Bool as truths}
 use Rattle.gb_core.specs.declared.value.Value.{Value}
 use Rattle.gb_terms.specs.declared.decl.TypedName.{TypedName}
+use Rattle.gb_terms.specs.declared.module.Bind.{Bind}
 use Rattle.gb_terms.specs.declared.module.ProcRef.{ProcRef}
 use Rattle.gb_terms.specs.declared.term.Term.{Term}
 use Rattle.gb_terms.specs.declared.term.Head.TheVariants.{Equiv, Proc}
@@ -18,7 +19,7 @@ use Rattle.gb_holds.specs.Declared.{declared}
 use Rattle.gb_meaning.specs.Names.{Name}
 use Rattle.gb_meaning.specs.Values.{World}
 use Rattle.gb_holds.specs.Settings.{Table, Interpretation, types_of, setting}
-use Rattle.gb_holds.specs.Holds.{AreValues, IsModel, context, interpretation, InEachModel}
+use Rattle.gb_holds.specs.Holds.{AreValues, EachProgram, IsModel, context, interpretation, InEachModel}
 
 -- the declarations have a model
 abbrev pub HasModel : Declarations → Type 0
@@ -28,9 +29,9 @@ HasModel ds = (w : World) × (size : Name → ℕ) × (table : Table) × IsModel
 abbrev pub equivalence : ProcRef → ProcRef → Term → Term → Term
 equivalence f h P Q = node (Equiv (Proc f) (Proc h)) (P ∷ Q ∷ []) truths
 
--- a form in a context of values and memories
-abbrev pub stated : List TypedName → List Name → Term → Sequent
-stated xs ms f = record { logical = xs; memories = ms; modules = []; hyps = []; conclusion = f }
+-- a form in a context of values, memories and abstract modules
+abbrev pub stated : List TypedName → List Name → List Bind → Term → Sequent
+stated xs ms bs f = record { logical = xs; memories = ms; modules = bs; hyps = []; conclusion = f }
 
 -- a relation between two memories, as a form says it in a setting and a state
 abbrev pub Relates : Setting → State → Term → Memory → Memory → Type 0
@@ -48,6 +49,6 @@ abbrev pub AreCoupled : Declarations → List TypedName → ProcRef → ProcRef 
 AreCoupled ds xs f h P Q i = (vs : List Value) → AreValues (types_of (declared ds) i) (map (λ x. x.ty) xs) vs → (ms : List Memory) →
     HaveCoupledOutputs (setting (declared ds) i) (context vs ms) f h P Q
 
--- in the setting of each model of the declarations
-abbrev pub AreCoupledInEachModel : Declarations → List TypedName → ProcRef → ProcRef → Term → Term → Type 0
-AreCoupledInEachModel ds xs f h P Q = InEachModel (declared ds) (AreCoupled ds xs f h P Q)
+-- in each model of the declarations, for all programs within these modules
+abbrev pub AreCoupledInEachModel : Declarations → List TypedName → List Bind → ProcRef → ProcRef → Term → Term → Type 0
+AreCoupledInEachModel ds xs bs f h P Q = InEachModel (declared ds) (λ i. EachProgram (declared ds) bs i (AreCoupled ds xs f h P Q))

@@ -10,8 +10,9 @@ use Rattle.gb_terms.specs.declared.term.Instr.{Instr, Row_of-Instr, end_of-Instr
 use Rattle.gb_terms.specs.declared.term.Subject.{Subject}
 use Rattle.gb_goal.specs.declared.sequent.Hyp.{Hyp}
 use Rattle.gb_goal.specs.declared.sequent.Sequent.{Sequent}
+use Rattle.gb_goal.specs.Scope as scope
 use Rattle.gb_meaning.specs.Names.{Name}
-use Rattle.gb_holds.specs.Declared.{Declarations, Declaration, module_type, concrete_module, abstract_module, axiom_of, lemma}
+use Rattle.gb_holds.specs.Declared.{Declarations, Declaration, declared, module_type, concrete_module, abstract_module, axiom_of, lemma}
 use Rattle.gb_holds.specs.Holds.{EachDeclared}
 use Rattle.gb_holds.specs.Naming.{AnyName}
 use Rattle.gb_holds.specs.Truth.{has_module}
@@ -85,6 +86,10 @@ abbrev pub IsFirm : Declaration → Type 0
 IsFirm (abstract_module b) = ⊥
 IsFirm (axiom_of q) = ⊥
 IsFirm _ = Unit {0}
+
+-- no declaration of the scope is an abstract module, as in those of scripts
+abbrev pub IsFirmScope : scope.Declarations → Type 0
+IsFirmScope ds = EachDeclared IsFirm (declared ds)
 
 -- a module, with parameters or without, a module type or a lemma
 abbrev pub IsModuleOrLemma : Declaration → Type 0

@@ -1,6 +1,5 @@
 -- Which globals the procedures of a module read or write.
-use Rattle.std.specs.Prelude.{List, [], ◌∷◌, ◌++◌, Option, Some, None}
-use Rattle.std.specs.Option.{option_map}
+use Rattle.std.specs.Prelude.{Bool, true, false, ◌&&◌, if◌then◌else◌, List, [], ◌∷◌, ◌++◌, Option, Some, None, is_some}
 use Rattle.gb_core.specs.declared.var.Var.{Var}
 use Rattle.gb_terms.specs.declared.decl.Module.{Module}
 use Rattle.gb_terms.specs.declared.decl.Proc.{Proc}
@@ -25,12 +24,21 @@ abbrev pub references : Mexp → List Proc → List ProcRef
 references e [] = []
 references e (f ∷ fs) = reference e f ∷ references e fs
 
--- the procedures of a module expression, of which this is the module
-abbrev pub procedures : Mexp → Option Module → List ProcRef
-procedures e None = []
-procedures e (Some m) = references e m.procs
+-- whether declared modules have all of these procedures
+abbrev pub are_declared : Declarations → List ProcRef → Bool
+are_declared ds [] = true
+are_declared ds (p ∷ ps) = is_some (procedure_of ds p) && are_declared ds ps
+
+abbrev pub touched_if : Declarations → Option (List ProcRef) → Option (List Var)
+touched_if ds None = None
+touched_if ds (Some ps) = if are_declared ds ps then Some (joined (touched ds ps) []) else None
+
+-- the footprint of a module expression, of which this is the module
+abbrev pub footprint_of : Declarations → Mexp → Option Module → Option (List Var)
+footprint_of ds e None = None
+footprint_of ds e (Some m) = touched_if ds (all_reached ds (references e m.procs))
 
 -- The footprint of a module expression that lacks nothing: the globals that its procedures read or write, through every procedure that
--- they call, in order.
+-- they call, in order. It isn't known where one of these is that of an abstract module.
 unfoldable pub footprint : Declarations → Mexp → Option (List Var)
-footprint ds e = option_map (λ ps. joined (touched ds ps) []) (all_reached ds (procedures e (module_of ds (name_of e))))
+footprint ds e = footprint_of ds e (module_of ds (name_of e))

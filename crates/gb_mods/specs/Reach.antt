@@ -1,5 +1,6 @@
 -- What procedures of module expressions call, inside of a module that is typed so far or outside: those of declared modules, of the
--- module around, and of its parameters, which call the oracles that their signatures name. Arguments are known to fit.
+-- module around, and of its parameters and abstract modules, which call the oracles that their signatures name. Arguments are known to
+-- fit.
 use Rattle.std.specs.Prelude.{ℕ, ◌^◌, if◌then◌else◌, List, [], ◌∷◌, ◌++◌, map, Option, Some, None, bytes_eq}
 use Rattle.gb_terms.specs.declared.decl.Module.{Module}
 use Rattle.gb_terms.specs.declared.decl.Param.{Param}
@@ -10,7 +11,9 @@ use Rattle.gb_goal.specs.declared.module_type.MayCall.TheVariants.{Every, Those}
 use Rattle.gb_goal.specs.declared.module_type.ModuleType.{ModuleType}
 use Rattle.gb_goal.specs.declared.module_type.Oracle.{Oracle}
 use Rattle.gb_goal.specs.declared.module_type.Signature.{Signature}
-use Rattle.gb_goal.specs.Scope.{Declarations, module_of, module_type_of, proc_of}
+use Rattle.gb_goal.specs.declared.scope.Entry.{Entry}
+use Rattle.gb_goal.specs.declared.scope.Entry.TheVariants as entry
+use Rattle.gb_goal.specs.Scope.{Declarations, as_module, entry_of, module_type_of, proc_of}
 use Rattle.gb_goal.specs.Instances.{arguments_of, name_of, put_in_reference, stands_for}
 use Rattle.gb_goal.specs.Interfaces.{signatures_of}
 use Rattle.gb_mods.specs.Called.{called_by, reached}
@@ -59,14 +62,19 @@ abbrev pub asked_by : Declarations → Option ModuleType → List Mexp → List 
 asked_by ds None es f = []
 asked_by ds (Some t) es f = asked_for t.params es (oracles_if ds t.params (signature_of t.signatures f))
 
+-- what a procedure of a declared module calls itself, with these arguments; one of an abstract module the oracles that its signature names
+abbrev pub called_declared : Declarations → Option Entry → List Mexp → List ℕ → List ProcRef
+called_declared ds (Some (entry.AbstractModule b)) es f = asked_by ds (module_type_of ds b.ty) es f
+called_declared ds e es f = calls_of (as_module e) es f
+
 -- inside of a module with these parameters, or some of them: what the procedure of this name calls itself, of the module of a name with
 -- these arguments
 abbrev pub called_inside : Declarations → Module → List Param → List ℕ → List Mexp → List ℕ → List ProcRef
-called_inside ds m [] n es f = if bytes_eq n m.name then calls_of (Some m) es f else calls_of (module_of ds n) es f
+called_inside ds m [] n es f = if bytes_eq n m.name then calls_of (Some m) es f else called_declared ds (entry_of ds n) es f
 called_inside ds m (q ∷ qs) n es f = if bytes_eq n q.name then asked_by ds (module_type_of ds q.ty) es f else called_inside ds m qs n es f
 
 abbrev pub called_at : Declarations → Option Module → List ℕ → List Mexp → List ℕ → List ProcRef
-called_at ds None n es f = calls_of (module_of ds n) es f
+called_at ds None n es f = called_declared ds (entry_of ds n) es f
 called_at ds (Some m) n es f = called_inside ds m m.params n es f
 
 -- the procedures that a procedure calls itself

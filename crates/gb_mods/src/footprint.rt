@@ -1,8 +1,7 @@
 //! Which globals the procedures of a module read or write.
 
 ghost use Rattle.std.specs.Prelude.{◌≡◌, IfOk};
-ghost use Rattle.std.specs.Option.{option_copied};
-ghost use Rattle.gb_mods.specs.Footprint.{footprint, procedures, reference, references, touched};
+ghost use Rattle.gb_mods.specs.Footprint.{are_declared, footprint, reference, references, touched};
 
 use crate::called::{Procedures, all_reached};
 use crate::order::{joined, with_variables};
@@ -11,7 +10,7 @@ use gb_core::Shared;
 use gb_core::var::Vars;
 use gb_goal::instance::name_of;
 use gb_goal::scope::Scope;
-use gb_terms::decl::{Module, Proc};
+use gb_terms::decl::Proc;
 use gb_terms::module::{Mexp, ProcRef};
 use sqlite_items::Items;
 use std::alloc::{AllocError, Global};
@@ -54,30 +53,34 @@ pub fn references(
     Ok(all)
 }
 
-/// The procedures of a module expression, of which this is the module.
-pub fn procedures(
-    alloc: Global,
-    module: &Mexp,
-    found: Option<&Module>,
-) -> Result<Procedures, AllocError>
-    ensures { IfOk result (λ made. made ≡ procedures «module».now (option_copied found.entry)) }
+/// Whether declared modules have all of these procedures.
+fn are_declared(alloc: Global, scope: &Scope, list: &[Shared<ProcRef>]) -> Result<bool, AllocError>
+    ensures { IfOk result (λ b. b ≡ are_declared scope.now list.now) }
 {
-    match found {
-        Some(found) => references(alloc, module, found.procs.as_slice()),
-        None => Ok(Items::new(alloc)),
+    for x in list {
+        if scope.procedure(alloc, x.get())?.is_none() {
+            return Ok(false);
+        }
     }
+    Ok(true)
 }
 
 /// The footprint of a module expression that lacks nothing: the globals that its procedures read or write, through every procedure that
-/// they call, in order. None where these are too many to follow, which no script has.
+/// they call, in order. None where one of these is that of an abstract module, or where they are too many to follow.
 #[tactic(auto, unfolding(crate::specs::Footprint::footprint))]
 pub fn footprint(alloc: Global, scope: &Scope, module: &Mexp) -> Result<Option<Vars>, AllocError>
     ensures { IfOk result (λ made. made ≡ footprint scope.now «module».now) }
 {
-    let first = procedures(alloc, module, scope.module(name_of(module)))?;
+    let Some(found) = scope.module(name_of(module)) else {
+        return Ok(None);
+    };
+    let first = references(alloc, module, found.procs.as_slice())?;
     let Some(all) = all_reached(alloc, scope, first)? else {
         return Ok(None);
     };
+    if !are_declared(alloc, scope, all.as_slice())? {
+        return Ok(None);
+    }
     let found = touched(alloc, scope, all.as_slice())?;
     let ordered = joined(alloc, found.as_slice(), Items::new(alloc))?;
     Ok(Some(ordered))

@@ -2,7 +2,7 @@
 
 ghost use Rattle.std.specs.Prelude.{◌≡◌, ◌++◌, IfOk};
 ghost use Rattle.std.specs.Option.{option_copied};
-ghost use Rattle.gb_mods.specs.Reach.{all_from, all_oracles, asked_by, asked_for, asked_of, called_at, called_from, called_from_all, called_inside, calls_of, given_for, oracles_if, oracles_in, signature_of};
+ghost use Rattle.gb_mods.specs.Reach.{all_from, all_oracles, asked_by, asked_for, asked_of, called_at, called_declared, called_from, called_from_all, called_inside, calls_of, given_for, oracles_if, oracles_in, signature_of};
 
 use crate::called::{Procedures, added, calls};
 use gb_core::Shared;
@@ -11,7 +11,7 @@ use gb_core::same::same_name;
 use gb_goal::instance::{arguments_of, name_of, put_in_reference, stands_for};
 use gb_goal::interface::signatures_of;
 use gb_goal::module_type::{MayCall, ModuleType, Oracle, Signature};
-use gb_goal::scope::{Scope, procedure_named};
+use gb_goal::scope::{Entry, Scope, procedure_named};
 use gb_terms::decl::{Module, Param};
 use gb_terms::module::{Mexp, ProcRef};
 use sqlite_items::Items;
@@ -173,6 +173,27 @@ fn asked_by(
     asked_if(alloc, scope, found, ty.params.as_slice(), args, signature)
 }
 
+/// Procedures behind others: what a procedure of a declared module calls itself, with these arguments; one of an abstract module calls the
+/// oracles that its signature names.
+fn called_declared(
+    alloc: Global,
+    scope: &Scope,
+    found: Procedures,
+    entry: Option<&Entry>,
+    args: &[Mexp],
+    name: &Name,
+) -> Result<Procedures, AllocError>
+    ensures { IfOk result (λ made. made ≡ found ++ called_declared scope.now (option_copied entry.entry) args.now name.now) }
+{
+    match entry {
+        Some(Entry::AbstractModule(bind)) => {
+            asked_by(alloc, scope, found, scope.module_type(&bind.ty), args, name)
+        }
+        Some(Entry::Module(module)) => calls_of(alloc, found, Some(module), args, name),
+        _ => Ok(found),
+    }
+}
+
 /// The same inside of a module, of the module of a name with these arguments.
 fn called_inside(
     alloc: Global,
@@ -190,12 +211,11 @@ fn called_inside(
             return asked_by(alloc, scope, found, scope.module_type(&q.ty), args, name);
         }
     }
-    let meant = if same_name(module, &around.name) {
-        Some(around)
+    if same_name(module, &around.name) {
+        calls_of(alloc, found, Some(around), args, name)
     } else {
-        scope.module(module)
-    };
-    calls_of(alloc, found, meant, args, name)
+        called_declared(alloc, scope, found, scope.entry(module), args, name)
+    }
 }
 
 /// The same inside of a module or outside.
@@ -211,7 +231,7 @@ fn called_at(
     ensures { IfOk result (λ made. made ≡ found ++ called_at scope.now (option_copied around.entry) «module».now args.now name.now) }
 {
     match around {
-        None => calls_of(alloc, found, scope.module(module), args, name),
+        None => called_declared(alloc, scope, found, scope.entry(module), args, name),
         Some(around) => called_inside(alloc, scope, found, around, module, args, name),
     }
 }

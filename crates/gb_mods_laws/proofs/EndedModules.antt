@@ -22,9 +22,10 @@ use Rattle.gb_meaning.specs.Names.{Name}
 use Rattle.gb_meaning.specs.Setting.{Setting}
 use Rattle.gb_meaning.specs.Values.{World}
 use Rattle.gb_holds.specs.Declared.{declared}
-use Rattle.gb_holds.specs.Holds.{InEachModel, IsModel, IsSound, interpretation}
+use Rattle.gb_holds.specs.Holds.{EachProgram, InEachModel, IsModel, IsSound, declared_modules, interpretation}
 use Rattle.gb_holds.specs.Naming.{EachCall, EachCallIn, EachCallOf, EachName, EachNameIn}
-use Rattle.gb_holds.specs.Settings.{Table, setting}
+use Rattle.gb_holds.specs.Settings.{Interpretation, Table, setting}
+use Rattle.gb_typing.specs.Chosen.{IsChosenOver}
 use Rattle.gb_typing.specs.Context.{Context, procedure}
 use Rattle.gb_typing.specs.Formulas.{IsKnown}
 use Rattle.gb_typing.specs.Modules.{Modules, ProcedureType, with_interface}
@@ -37,11 +38,13 @@ use Rattle.gb_typing.proofs.DeclaredProcedures.{calls_declared, module_if}
 use Rattle.gb_typing.proofs.LinkedProcedures.{linked_there}
 use Rattle.gb_typing.proofs.Located.{typed_in_scope}
 use Rattle.gb_typing.proofs.Standing.{Among, among, module_place, of_instance, standing, stands}
-use Rattle.gb_models.specs.Speaking.{ScopeSpeaks}
+use Rattle.gb_models.specs.Speaking.{IsFirmScope, ScopeSpeaks}
 use Rattle.gb_models.proofs.LinkedNames.{none_some}
+use Rattle.gb_models.proofs.Models.{no_section}
 use Rattle.gb_models.proofs.NamedForms.{reference_known}
+use Rattle.gb_models.proofs.ProvedLoops.{proved_good, proved_plain}
 use Rattle.gb_models.proofs.Staying.{split}
-use Rattle.gb_models.proofs.StayingLoops.{module_there}
+use Rattle.gb_models.proofs.StayingLoops.{firm_parts, module_there}
 use Rattle.gb_ended.specs.Ended.{first_among, first_at, first_of, first_unproved}
 use Rattle.gb_ended.specs.Loops.{named, unproved, unproved_if, unproved_of}
 use Rattle.gb_ended.specs.Named.{all_named, free_of, is_one, modules_of, named_by, named_from, named_in, names_in, other, others, row_names, with_named}
@@ -52,7 +55,7 @@ use Rattle.gb_mods_laws.proofs.Bodies.{each_call as each_called}
 use Rattle.gb_mods_laws.proofs.Closed.{procedure_ends}
 use Rattle.gb_mods_laws.proofs.Instances.{calls_put, in_map, loops_same}
 use Rattle.gb_mods_laws.proofs.ModuleNames.{EachIn, IsOfNone, each_by, each_map, each_map_in, of_arguments, of_name, put_names, stand_names}
-use Rattle.gb_mods_laws.proofs.OwnLoops.{IsGoodIn, at_model, first_none_of, in_each, none_chosen, own_loops}
+use Rattle.gb_mods_laws.proofs.OwnLoops.{IsGoodIn, chosen_over, first_none_of, own_loops}
 use mathlib.Core.Former.{Count}
 
 -- Names among others.
@@ -108,6 +111,7 @@ with_more (Some (entry.Lemma q bs)) ns n e = e
 with_more (Some (entry.Type t)) ns n e = e
 with_more (Some entry.AbstractType) ns n e = e
 with_more (Some (entry.ModuleType y)) ns n e = e
+with_more (Some (entry.AbstractModule y)) ns n e = e
 with_more (Some (entry.Constant k)) ns n e = e
 with_more (Some (entry.Operator o)) ns n e = e
 with_more (Some (entry.AbstractOperator o)) ns n e = e
@@ -211,7 +215,10 @@ found_here (x ∷ xs) ys n e h = step (bytes_eq n x.0) h (found_here xs ys n e)
 unproved_same : (ds : Declarations) (m : Name) (ps : List Param) (es : List Mexp) (a : Proc) → unproved ds m (instance ps es a) ≡ unproved ds m a
 unproved_same ds m ps es a = ap (λ b. if b && not (is_proved ds (named m a)) then Some (named m a) else None) (loops_same (stands_for ps es) a.body.list)
 
-module _ (ds : Declarations) (scoped : IsTypedScope (declared ds)) (sound : IsSound (declared ds)) (spoken : ScopeSpeaks NoName (declared ds)) where
+module _ (ds : Declarations) (scoped : IsTypedScope (declared ds)) (firm : IsFirmScope ds) (sound : IsSound (declared ds)) (spoken : ScopeSpeaks NoName (declared ds)) where
+  abbrev none : declared_modules (declared ds) ≡ []
+  none = no_section ds firm
+
   -- A module that an ended one names, through all modules between, or the ended one itself.
   record IsEnded (n : Name) : Type 0 where
     root : Name
@@ -277,7 +284,7 @@ module _ (ds : Declarations) (scoped : IsTypedScope (declared ds)) (sound : IsSo
     earlier : (k : Name) → IsKnown (c.modules.interfaces k) → is_one (named_from m) k ≡ true → IsEnded k
     earlier k known h =
         let p = parted n x.before m x.after x.place in
-        let y = module_if x.before p.0 k known in
+        let y = module_if x.before p.0 (no_section x.before (firm_parts x.before ((n, entry.Module m) ∷ x.after) (subst IsFirmScope x.place firm)).0) k known in
         let l = stands x.before k y.0 y.1 in
         let behind : Declarations = l.after ++ (n, entry.Module m) ∷ x.after in
         let standing : ds ≡ l.front ++ (k, entry.Module y.0) ∷ behind =
@@ -408,7 +415,7 @@ module _ (ds : Declarations) (scoped : IsTypedScope (declared ds)) (sound : IsSo
           o.names
               (λ r j. subst (λ (m : Module). EachName (λ k. EachName IsEnded (stands_for m.params es k)) r.«module») (sym owner_is)
               (call_names (name_of p.«module») x p.name o.own own_there es fit_there (of_arguments IsEnded p.«module» names) r j)) q i,
-          each_called (λ r. (b : Proc) × (procedure_of ds r ≡ Some b)) a.body.list (calls_declared ds scoped p a there) q i,
+          each_called (λ r. (b : Proc) × (procedure_of ds r ≡ Some b)) a.body.list (calls_declared ds scoped none p a there) q i,
         ))
 
   -- the modules of a declared procedure are declared
@@ -416,27 +423,32 @@ module _ (ds : Declarations) (scoped : IsTypedScope (declared ds)) (sound : IsSo
   all_ended p h a there =
       let c = context_of (declared ds) in
       let t = typed_in_scope ds scoped p a there in
-      each_by (λ n. first_unproved ds n ≡ None) (λ n. IsKnown (c.modules.interfaces n)) IsEnded (λ n e k. let m = module_if ds scoped n k in ended_itself n e m.0 m.1) p.«module» h
+      each_by (λ n. first_unproved ds n ≡ None) (λ n. IsKnown (c.modules.interfaces n)) IsEnded (λ n e k. let m = module_if ds scoped none n k in ended_itself n e m.0 m.1) p.«module» h
       (reference_known c p (subst IsThere (sym t.type) tt))
 
   module _ (w : World) (size : Name → ℕ) (table : Table) (model : IsModel (declared ds) (interpretation w size table)) where
     abbrev g : Setting
     g = setting (declared ds) (interpretation w size table)
 
+    -- no program is chosen
+    alone : (P : Interpretation → Type 0) → InEachModel (declared ds) P → P (interpretation w size table)
+    alone P h = subst (λ bs. EachProgram (declared ds) bs (interpretation w size table) P) none (h w size table model)
+
     are_ended : AreEnded ds g IsOne
     are_ended p h = (
       h.1.0,
       h.1.1,
       callees p h.0 h.1.0 h.1.1,
-      at_model ds scoped sound spoken (IsGoodIn ds scoped sound spoken h.1.0) (own_loops ds scoped sound spoken p h.1.0 h.1.1 (is_proved_there p h.0 h.1.0 h.1.1)) w size table model,
+      alone (IsGoodIn ds h.1.0)
+          (own_loops ds scoped (λ q b. proved_good ds scoped firm sound spoken q b) (λ q. proved_plain ds scoped q) p h.1.0 h.1.1 (is_proved_there p h.0 h.1.0 h.1.1)),
     )
 
     all_good : (p : ProcRef) → IsOne p → ReachesGoodLoops g (g.procedure p)
-    all_good p h = procedure_ends g IsOne ds (λ q b e. linked_there ds scoped (interpretation w size table) (none_chosen ds) q b e) are_ended p h
+    all_good p h = procedure_ends g IsOne ds (λ q b e. linked_there ds scoped (interpretation w size table) (alone (IsChosenOver (declared ds)) (chosen_over ds scoped)) q b e) are_ended p h
 
   -- each loop is good that a procedure of ended modules reaches
   pub ended_reaches : (p : ProcRef) → EachName (λ n. first_unproved ds n ≡ None) p.«module» → (a : Proc) → procedure_of ds p ≡ Some a →
       InEachModel (declared ds) (λ i. ReachesGoodLoops (setting (declared ds) i) ((setting (declared ds) i).procedure p))
-  ended_reaches p h a e =
-      in_each ds scoped sound spoken (λ i. ReachesGoodLoops (setting (declared ds) i) ((setting (declared ds) i).procedure p))
-      (λ w size table model. all_good w size table model p (all_ended p h a e, (a, e)))
+  ended_reaches p h a e = λ w size table model.
+      subst (λ bs. EachProgram (declared ds) bs (interpretation w size table) (λ i. ReachesGoodLoops (setting (declared ds) i) ((setting (declared ds) i).procedure p))) (sym none)
+      (all_good w size table model p (all_ended p h a e, (a, e)))

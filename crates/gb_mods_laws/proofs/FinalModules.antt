@@ -55,6 +55,8 @@ module _ {X : Type 0} (read : Reading X) where
       other (bytes_eq n h) entry.AbstractType ds n m refl r (λ r. final_module ds (before ++ (h, declaration_of entry.AbstractType) ∷ []) c w.2 base n m r)
   final_module ((h, entry.ModuleType y) ∷ ds) before c w base n m r =
       other (bytes_eq n h) (entry.ModuleType y) ds n m refl r (λ r. final_module ds (before ++ (h, declaration_of (entry.ModuleType y)) ∷ []) (with_declared c h (declaration_of (entry.ModuleType y))) w.2 base n m r)
+  final_module ((h, entry.AbstractModule y) ∷ ds) before c w base n m r =
+      other (bytes_eq n h) (entry.AbstractModule y) ds n m refl r (λ r. final_module ds (before ++ (h, declaration_of (entry.AbstractModule y)) ∷ []) (with_declared c h (declaration_of (entry.AbstractModule y))) w.2 base n m r)
   final_module ((h, entry.Constant z) ∷ ds) before c w base n m r =
       other (bytes_eq n h) (entry.Constant z) ds n m refl r (λ r. final_module ds (before ++ (h, declaration_of (entry.Constant z)) ∷ []) c w.2 base n m r)
   final_module ((h, entry.Operator z) ∷ ds) before c w base n m r =

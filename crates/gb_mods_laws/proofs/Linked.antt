@@ -23,7 +23,7 @@ module _ (ds : scope.Declarations) (scoped : IsTypedScope (declared ds)) (g : Se
   pub meant : (p : ProcRef) (a : Proc) → procedure_of ds p ≡ Some a → g.procedure p ≡ Some (routine a.params a.locals (statements g a.body.list) a.value)
   meant p a e =
       subst (λ h. h.procedure p ≡ Some (routine a.params a.locals (statements h a.body.list) a.value)) (sym over.meant)
-      (linked_there ds scoped over.interpretation (let x = over.chosen in x.unchosen) p a e)
+      (linked_there ds scoped over.interpretation over.chosen p a e)
 
   pub linked_runs : (p : ProcRef) (l : Linked) → link ds p ≡ given l → g.procedure p ≡ Some (routine l.params l.locals (statements g l.body.list) l.result)
   linked_runs p l e = by_found (procedure_of ds p) refl e

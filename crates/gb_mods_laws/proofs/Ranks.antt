@@ -6,10 +6,12 @@ use Rattle.gb_goal.specs.Instances.{put_in_reference}
 use Rattle.gb_goal.specs.Scope as scope
 use Rattle.gb_goal.specs.Scope.{procedure_of}
 use Rattle.gb_holds.specs.Declared.{declared}
+use Rattle.gb_holds.specs.Holds.{declared_modules}
 use Rattle.gb_holds.specs.Modules.{Reading, modules_of, no_module, procedure_at}
 use Rattle.gb_typing.specs.Alike.{LooksAtCalls}
 use Rattle.gb_typing.specs.Following.{FollowsCalls}
-use Rattle.gb_typing.specs.Scopes.{IsTypedScope}
+use Rattle.gb_typing.specs.Scopes.{nothing, IsTypedScope}
+use Rattle.gb_typing.proofs.ScopesAlike.{script_alike}
 use Rattle.gb_mods.specs.Called.{calls}
 use Rattle.gb_mods.proofs.Closed.{IsIn}
 use Rattle.gb_mods_laws.proofs.Bodies.{each_call}
@@ -46,7 +48,7 @@ below F [] q h = absurd h
 below F (x ∷ qs) q (inl e) = let k : depth_of (F x) ≡ depth_of (F q) = ap (λ r. depth_of (F r)) e in omega (arith, k)
 below F (x ∷ qs) q (inr h) = let k = below F qs q h in omega (arith, k)
 
-module _ (ds : scope.Declarations) (scoped : IsTypedScope (declared ds)) where
+module _ (ds : scope.Declarations) (scoped : IsTypedScope (declared ds)) (none : declared_modules (declared ds) ≡ []) where
   abbrev pub rank : ProcRef → ℕ
   rank r = depth_of (procedure_at (modules_of depth_read (λ k. no_module) (declared ds)) r)
 
@@ -54,5 +56,5 @@ module _ (ds : scope.Declarations) (scoped : IsTypedScope (declared ds)) where
   falls r p e q h =
       let F = procedure_at (modules_of depth_read (λ k. no_module) (declared ds)) in
       let k = below F (calls p.body.list) q h in
-      let s : rank r ≡ suc (total F (calls p.body.list)) = ap depth_of (read_there depth_read depth_looks depth_follows (λ k. no_module) ds scoped r p e) in
+      let s : rank r ≡ suc (total F (calls p.body.list)) = ap depth_of (read_there depth_read depth_looks depth_follows (λ k. no_module) ds scoped (script_alike ds none nothing (λ k. no_module) (λ k. no_module)) r p e) in
       omega (arith, k, s)

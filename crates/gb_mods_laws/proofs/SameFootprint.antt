@@ -13,23 +13,25 @@ use Rattle.gb_goal.specs.Instances.{name_of}
 use Rattle.gb_goal.specs.Interfaces.{Interface, ProcedureType, given, interface_at, interfaces_at, lacking, left_over, of_complete, of_module, procedure_in, procedure_type, procedure_types, type_of_procedure}
 use Rattle.gb_goal.specs.Scope as scope
 use Rattle.gb_goal.specs.Scope.{module_of, proc_of, procedure_of}
-use Rattle.gb_goal.proofs.Interfaces.{declared_type}
+use Rattle.gb_goal.proofs.Interfaces.{declared_types}
 use Rattle.gb_meaning.specs.Names.{Name}
 use Rattle.gb_holds.specs.Declared.{declared}
 use Rattle.gb_holds.specs.Footprints.{body_touched, footprint_read, of_all, of_callee, variables}
 use Rattle.gb_holds.specs.Footprints as meant
+use Rattle.gb_holds.specs.Holds.{declared_modules}
 use Rattle.gb_holds.specs.Modules.{Applied, Functor, Modules, Procedures, found, module_at, module_read, modules_at, modules_of, no_module, procedure_at, with_module, with_params, with_procedure, with_procedures}
 use Rattle.gb_holds.specs.Naming.{IsFreshAmong}
 use Rattle.gb_holds.proofs.Procedures.{in_module}
 use Rattle.gb_typing.specs.Context.{Context}
 use Rattle.gb_typing.specs.Scopes.{nothing, AreProcedures, IsTypedScope}
-use Rattle.gb_typing.proofs.DeclaredProcedures.{calls_declared}
+use Rattle.gb_typing.proofs.DeclaredProcedures.{calls_declared, modules_alone}
 use Rattle.gb_typing.proofs.Follows.{footprint_follows}
 use Rattle.gb_typing.proofs.InScopes.{found_first}
 use Rattle.gb_typing.proofs.ModulesAlike.{footprint-looks}
 use Rattle.gb_typing.proofs.Scripts.{itself, none_some, same_some}
+use Rattle.gb_typing.proofs.ScopesAlike.{script_alike}
 use Rattle.gb_mods.specs.Called.{added, called, called_by, calls, is_among, reached}
-use Rattle.gb_mods.specs.Footprint.{procedures, reference, references, touched}
+use Rattle.gb_mods.specs.Footprint.{are_declared, footprint_of, reference, references, touched, touched_if}
 use Rattle.gb_mods.specs.Footprint as computed
 use Rattle.gb_mods.specs.Order.{joined}
 use Rattle.gb_mods.specs.Touched.{each_touched, touched_itself}
@@ -41,7 +43,7 @@ use Rattle.gb_mods_laws.proofs.Members.{either, has_behind, has_either, has_fron
 use Rattle.gb_mods_laws.proofs.Ranks.{falls, rank}
 use Rattle.gb_mods_laws.proofs.ReadProcedures.{read_there}
 
-module _ (ds : scope.Declarations) (scoped : IsTypedScope (declared ds)) where
+module _ (ds : scope.Declarations) (scoped : IsTypedScope (declared ds)) (alone : declared_modules (declared ds) ≡ []) where
   abbrev all : Modules (List Var)
   all = modules_of footprint_read (λ k. no_module) (declared ds)
 
@@ -50,7 +52,7 @@ module _ (ds : scope.Declarations) (scoped : IsTypedScope (declared ds)) where
   reaches r = of_callee (procedure_at all r)
 
   reaches_is : (r : ProcRef) (p : Proc) → procedure_of ds r ≡ Some p → reaches r ≡ footprint_read (procedure_at all) p
-  reaches_is r p e = ap of_callee (read_there footprint_read footprint-looks footprint_follows (λ k. no_module) ds scoped r p e)
+  reaches_is r p e = ap of_callee (read_there footprint_read footprint-looks footprint_follows (λ k. no_module) ds scoped (script_alike ds alone nothing (λ k. no_module) (λ k. no_module)) r p e)
 
   reaches_global : (r : ProcRef) (p : Proc) → procedure_of ds r ≡ Some p → (z : Var) → Has (reaches r) z → IsGlobal z
   reaches_global r p e z h =
@@ -79,7 +81,7 @@ module _ (ds : scope.Declarations) (scoped : IsTypedScope (declared ds)) where
 
   reaches_called : (r : ProcRef) (p : Proc) → procedure_of ds r ≡ Some p → (q : ProcRef) → IsIn (calls p.body.list) q → (z : Var) → Has (reaches q) z → Has (reaches r) z
   reaches_called r p e q c z h =
-      let f = each_call (λ q. (f : Proc) × (procedure_of ds q ≡ Some f)) p.body.list (calls_declared ds scoped r p e) q c in
+      let f = each_call (λ q. (f : Proc) × (procedure_of ds q ≡ Some f)) p.body.list (calls_declared ds scoped alone r p e) q c in
       reaches_body r p e z (reaches_global q f.0 f.1 z h) (has_front (body_touched (procedure_at all) p.body.list) (variables p.value) z (called_body (procedure_at all) z p.body.list q h c))
 
   -- what reached procedures touch themselves
@@ -95,13 +97,13 @@ module _ (ds : scope.Declarations) (scoped : IsTypedScope (declared ds)) where
       either (λ k. (q, inl refl, k)) (λ k. let o = by_one qs z k in (o.0, inr o.1, o.2)) (has_either (touched_itself (procedure_of ds q)) (touched ds qs) z h)
 
   -- what a reached procedure touches in the meaning, reached ones touch themselves
-  deep : (d : ℕ) (ps qs : List ProcRef) → AreReached ds ps qs → (r : ProcRef) (p : Proc) → procedure_of ds r ≡ Some p → rank ds scoped r < d → IsIn qs r → (z : Var) → Has (reaches r) z → Has (touched ds qs) z
+  deep : (d : ℕ) (ps qs : List ProcRef) → AreReached ds ps qs → (r : ProcRef) (p : Proc) → procedure_of ds r ≡ Some p → rank ds scoped alone r < d → IsIn qs r → (z : Var) → Has (reaches r) z → Has (touched ds qs) z
   deep zero ps qs closed r p e l i z h = absurd (omega (arith, l))
   deep (suc d) ps qs closed r p e l i z h =
       either (λ o. touched_by qs r p e i z o)
-      (λ t. let f = each_call (λ q. (f : Proc) × (procedure_of ds q ≡ Some f)) p.body.list (calls_declared ds scoped r p e) t.0 t.1 in
-      let k = falls ds scoped r p e t.0 t.1 in
-      let m : rank ds scoped t.0 < d = omega (arith, k, l) in
+      (λ t. let f = each_call (λ q. (f : Proc) × (procedure_of ds q ≡ Some f)) p.body.list (calls_declared ds scoped alone r p e) t.0 t.1 in
+      let k = falls ds scoped alone r p e t.0 t.1 in
+      let m : rank ds scoped alone t.0 < d = omega (arith, k, l) in
       let c = closed.closed in
       deep d ps qs closed t.0 f.0 f.1 m (c r i t.0 (subst (λ o. IsIn (called_by o) t.0) (sym e) t.1)) z t.2)
       (reaches_split r p e z h)
@@ -235,8 +237,9 @@ module _ (ds : scope.Declarations) (scoped : IsTypedScope (declared ds)) where
       step (Some qs) h = record { owner = m; there = e; types = ap (λ (j : Interface). j.procedures) (sym (same_some (record (of_module m) { lacks = qs }) i h)) }
 
   known_of : (x : Mexp) (i : Interface) → interface_at ds None x ≡ Some i → IsOf (name_of x) i
-  known_of (named n) i e = named_of n i (module_of ds n) refl e
-  known_of (Apply' n k args) i e = given_of n i (module_of ds n) refl (interfaces_at ds None args) e
+  known_of (named n) i e = named_of n i (module_of ds n) refl (sym (modules_alone ds alone n) ∙ e)
+  known_of (Apply' n k args) i e =
+      given_of n i (module_of ds n) refl (interfaces_at ds None args) (subst (λ o. given ds o (interfaces_at ds None args) ≡ Some i) (modules_alone ds alone n) e)
 
   -- the module that it names, with arguments
   applied : (x : Mexp) → (args : List (Functor (List Var))) × (module_at all x [] ≡ all (name_of x) args)
@@ -255,10 +258,7 @@ module _ (ds : scope.Declarations) (scoped : IsTypedScope (declared ds)) where
     meaning = meant.footprint all (λ k. false) x
 
     abbrev start : List ProcRef
-    start = procedures x (module_of ds (name_of x))
-
-    start_is : start ≡ references x m.procs
-    start_is = ap (procedures x) known.there
+    start = references x m.procs
 
     meaning_has : (z : Var) → Has (of_all (module_at all x [])) z → Has meaning z
     meaning_has z h = ordered_has (of_all (module_at all x [])) z h
@@ -277,7 +277,7 @@ module _ (ds : scope.Declarations) (scoped : IsTypedScope (declared ds)) where
     first_meant : (r : ProcRef) → IsIn start r → IsMeant r
     unfolding IsMeant
     first_meant r j z h =
-        let k = referring x m.procs r (subst (λ ps. IsIn ps r) start_is j) in
+        let k = referring x m.procs r j in
         meaning_has z (found_has (module_at all x []) k.0.name z (subst (λ q. Has (reaches q) z) (sym k.1) h))
 
     declared_one : (q : ProcRef) (z : Var) (o : Option Proc) → procedure_of ds q ≡ o → Has (touched_itself o) z → (p : Proc) × (procedure_of ds q ≡ Some p) × Has (touched_itself (Some p)) z
@@ -291,14 +291,23 @@ module _ (ds : scope.Declarations) (scoped : IsTypedScope (declared ds)) where
         let p = declared_one o.0 z (procedure_of ds o.0) refl o.2 in
         all_reached IsMeant called_meant (2 ^ 32) 0 start qs first_meant f o.0 o.1 z (reaches_own o.0 p.0 p.1 z p.2)
 
+    -- what is computed are the variables of all procedures that are reached
+    computed_is : (xs : List Var) → computed.footprint ds x ≡ Some xs → (qs : List ProcRef) × ((reached (2 ^ 32) (called ds) 0 start ≡ Some qs) × (joined (touched ds qs) [] ≡ xs))
+    unfolding computed.footprint
+    computed_is xs e = by_reach (reached (2 ^ 32) (called ds) 0 start) refl (subst (λ o. footprint_of ds x o ≡ Some xs) known.there e)
+      where
+        all_there : (b : Bool) (qs : List ProcRef) → (if b then Some (joined (touched ds qs) []) else None) ≡ Some xs → joined (touched ds qs) [] ≡ xs
+        all_there true qs h = same_some (joined (touched ds qs) []) xs h
+        all_there false qs h = none_some xs h
+
+        by_reach : (o : Option (List ProcRef)) → reached (2 ^ 32) (called ds) 0 start ≡ o → touched_if ds o ≡ Some xs →
+            (qs : List ProcRef) × ((reached (2 ^ 32) (called ds) 0 start ≡ Some qs) × (joined (touched ds qs) [] ≡ xs))
+        by_reach None f g = none_some xs g
+        by_reach (Some qs) f g = (qs, (f, all_there (are_declared ds qs) qs g))
+
     -- what is computed is meant
     pub computed_meant : (xs : List Var) → computed.footprint ds x ≡ Some xs → (z : Var) → Has xs z → Has meaning z
-    unfolding computed.footprint
-    computed_meant xs e z h = step (reached (2 ^ 32) (called ds) 0 start) refl e
-      where
-        step : (o : Option (List ProcRef)) → reached (2 ^ 32) (called ds) 0 start ≡ o → option_map (λ ps. joined (touched ds ps) []) o ≡ Some xs → Has meaning z
-        step None f g = none_some xs g
-        step (Some qs) f g = reached_meant qs f z (in_joined (touched ds qs) z (subst (λ ys. Has ys z) (sym (same_some (joined (touched ds qs) []) xs g)) h))
+    computed_meant xs e z h = let c = computed_is xs e in reached_meant c.0 c.1.0 z (in_joined (touched ds c.0) z (subst (λ ys. Has ys z) (sym c.1.1) h))
 
     -- each procedure of the module is a declared one, with the arguments
     declared_at : (front : List Proc) (p : Proc) (after : List Proc) → m.procs ≡ front ++ p ∷ after → IsFreshAmong front p.name → (a : Proc) × (procedure_of ds (reference x p) ≡ Some a)
@@ -310,7 +319,7 @@ module _ (ds : scope.Declarations) (scoped : IsTypedScope (declared ds)) where
             ∙ found_first m.procs p.name p (ap (λ ps. proc_of ps p.name) place ∙ first_is front p after fresh)
 
         step : (o : Option Proc) → procedure_of ds (reference x p) ≡ o → (a : Proc) × (procedure_of ds (reference x p) ≡ Some a)
-        step None e = none_some (type_of_procedure p) (sym (declared_type ds (reference x p) ∙ ap (option_map type_of_procedure) e) ∙ typed)
+        step None e = none_some (type_of_procedure p) (sym (declared_types ds (modules_alone ds alone) (reference x p) ∙ ap (option_map type_of_procedure) e) ∙ typed)
         step (Some a) e = (a, e)
 
     -- the module in the meaning
@@ -339,15 +348,12 @@ module _ (ds : scope.Declarations) (scoped : IsTypedScope (declared ds)) where
             ap (λ ps. found ps p.name) applied_is ∙ v in
             let a = declared_at y.front p y.after y.place fresh in
             let c = all_closed ds start qs f in
-            let j = c.there r (subst (λ ps. IsIn ps r) (sym start_is) (subst (λ ps. IsIn (references x ps) r) (sym y.place) (referred x y.front p y.after))) in
-            let b : rank ds scoped r < suc (rank ds scoped r) = omega arith in
-            deep (suc (rank ds scoped r)) start qs c r a.0 a.1 b j z (subst (λ o. Has (of_callee o) z) (sym there_is) y.has)
+            let j = c.there r (subst (λ ps. IsIn (references x ps) r) (sym y.place) (referred x y.front p y.after)) in
+            let b : rank ds scoped alone r < suc (rank ds scoped alone r) = omega arith in
+            deep (suc (rank ds scoped alone r)) start qs c r a.0 a.1 b j z (subst (λ o. Has (of_callee o) z) (sym there_is) y.has)
 
     -- what is meant is computed
     pub meant_computed : (xs : List Var) → computed.footprint ds x ≡ Some xs → (z : Var) → Has meaning z → Has xs z
-    unfolding computed.footprint
-    meant_computed xs e z h = step (reached (2 ^ 32) (called ds) 0 start) refl e
-      where
-        step : (o : Option (List ProcRef)) → reached (2 ^ 32) (called ds) 0 start ≡ o → option_map (λ ps. joined (touched ds ps) []) o ≡ Some xs → Has xs z
-        step None f g = none_some xs g
-        step (Some qs) f g = subst (λ ys. Has ys z) (same_some (joined (touched ds qs) []) xs g) (joined_has (touched ds qs) z (meant_reached qs f z (in_ordered (of_all (module_at all x [])) z h)))
+    meant_computed xs e z h =
+        let c = computed_is xs e in
+        subst (λ ys. Has ys z) c.1.1 (joined_has (touched ds c.0) z (meant_reached c.0 c.1.0 z (in_ordered (of_all (module_at all x [])) z h)))

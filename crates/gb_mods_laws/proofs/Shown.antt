@@ -15,7 +15,6 @@ use Rattle.gb_goal.specs.Goal.Code.{body}
 use Rattle.gb_goal.specs.Goal.Goal.{ambient, hoare}
 use Rattle.gb_goal.specs.Scope as scope
 use Rattle.gb_goal.specs.Scope.{procedure_of}
-use Rattle.gb_goal.specs.declared.scope.Entry.TheVariants as entry
 use Rattle.gb_goal.specs.declared.sequent.Sequent.{Sequent}
 use Rattle.gb_meaning.specs.Commands.{statements}
 use Rattle.gb_meaning.specs.Meanings.{value_in}
@@ -50,6 +49,8 @@ use Rattle.gb_typing.proofs.Exact.{exact}
 use Rattle.gb_typing.proofs.Fitting.{fits_program, state_inside}
 use Rattle.gb_typing.proofs.Lifted.{both, sequent_outermost}
 use Rattle.gb_typing.proofs.Located.{IsTypedThere, typed_there}
+use Rattle.gb_models.specs.Speaking.{IsFirmScope}
+use Rattle.gb_models.proofs.Models.{no_section}
 use Rattle.gb_typing.proofs.Models.{each_setting}
 use Rattle.gb_typing.proofs.Substituted.{quiet_fractional}
 use Rattle.gb_typing.proofs.TypedGoals.{goal_conclusion, goal_front}
@@ -72,19 +73,6 @@ finite_modulo ts (ty.Mod n) m (fraction a) h = absurd h.0
 finite_modulo ts (ty.Mod n) m (weights d) h = absurd h.0
 finite_modulo ts _ m x h = absurd m
 
--- the declarations of a script choose no programs
-no_modules : (ds : scope.Declarations) → declared_modules (declared ds) ≡ []
-no_modules [] = refl
-no_modules ((n, entry.Module m) ∷ ds) = no_modules ds
-no_modules ((n, entry.Lemma q bs) ∷ ds) = no_modules ds
-no_modules ((n, entry.Type t) ∷ ds) = no_modules ds
-no_modules ((n, entry.AbstractType) ∷ ds) = no_modules ds
-no_modules ((n, entry.ModuleType y) ∷ ds) = no_modules ds
-no_modules ((n, entry.Constant c) ∷ ds) = no_modules ds
-no_modules ((n, entry.Operator o) ∷ ds) = no_modules ds
-no_modules ((n, entry.AbstractOperator o) ∷ ds) = no_modules ds
-no_modules ((n, entry.Terminating p) ∷ ds) = no_modules ds
-
 module _ {X Y : Type 0} (P : Y → X → Type 0) (f : X → Y) where
   -- what holds of a list at each parameter holds of each element at its own
   own : (xs : List X) → ((y : Y) → AllByRecursion (P y) xs) → AllByRecursion (λ x. P (f x) x) xs
@@ -96,7 +84,7 @@ module _ {X : Type 0} (P Q R : X → Type 0) (step : (x : X) → P x → Q x →
   paired [] h k = tt
   paired (x ∷ xs) h k = (step x h.0 k.0, paired xs h.1 k.1)
 
-module _ (ds : scope.Declarations) (scoped : IsTypedScope (declared ds)) where
+module _ (ds : scope.Declarations) (scoped : IsTypedScope (declared ds)) (firm : IsFirmScope ds) where
   abbrev D : Declarations
   D = declared ds
 
@@ -200,7 +188,7 @@ module _ (ds : scope.Declarations) (scoped : IsTypedScope (declared ds)) where
         let i = interpretation world size table in
         let g = setting D i in
         let fits : IsSettingOf (around q) g =
-        subst (λ bs. EachProgram D bs i (λ k. IsSettingOf (around q) (setting D k))) (no_modules ds) (each_setting D scoped q tt [] world size table model) in
+        subst (λ bs. EachProgram D bs i (λ k. IsSettingOf (around q) (setting D k))) (no_section ds firm) (each_setting D scoped q tt [] world size table model) in
         let c = of_program (around q) (locals_of a) in
         let e = w.variant in
         let f = fits_program (around q) g fits (locals_of a) in

@@ -24,6 +24,7 @@ ghost use Rattle.gb_holds.specs.Footprints as meant;
 ghost use Rattle.gb_holds.specs.Modules.{modules_of, no_module};
 ghost use Rattle.gb_typing.specs.Rules.{IsSettingOver};
 ghost use Rattle.gb_typing.specs.Scopes.{IsTypedScope};
+ghost use Rattle.gb_models.specs.Speaking.{IsFirmScope};
 ghost use Rattle.gb_mods.specs.Footprint.{footprint};
 ghost use Rattle.gb_mods.specs.Link.{link};
 ghost use Rattle.gb_mods.specs.Read.{read};
@@ -32,15 +33,15 @@ ghost use Rattle.gb_mods.specs.declared.procedures.Linked.{Linked};
 ghost use Rattle.gb_mods_laws.specs.Agree.{HoldSame};
 ghost use Rattle.gb_mods_laws.specs.Members.{CallsAreDeclared, Has};
 
-/// Declared procedures of a typed scope call declared ones alone.
+/// Declared procedures of a typed scope without abstract modules call declared ones alone.
 pub fn declared_calls()
-    ensures { (ds : scope.Declarations) → IsTypedScope (declared ds) → CallsAreDeclared ds }
+    ensures { (ds : scope.Declarations) → IsTypedScope (declared ds) → IsFirmScope ds → CallsAreDeclared ds }
 {}
 
-/// The footprint of a module expression that lacks nothing, as it is computed in a typed scope, has the variables of its footprint in the
-/// meaning, and no others.
+/// The footprint of a module expression that lacks nothing, as it is computed in a typed scope without abstract modules, has the variables
+/// of its footprint in the meaning, and no others.
 pub fn footprints()
-    ensures { (ds : scope.Declarations) → IsTypedScope (declared ds) → (m : Mexp) (i : Interface) → interface_at ds None m ≡ Some i → i.lacks ≡ [] →
+    ensures { (ds : scope.Declarations) → IsTypedScope (declared ds) → IsFirmScope ds → (m : Mexp) (i : Interface) → interface_at ds None m ≡ Some i → i.lacks ≡ [] →
         (xs : List Var) → footprint ds m ≡ Some xs → (x : Var) →
         (Has xs x → Has (meant.footprint (modules_of footprint_read (λ k. no_module) (declared ds)) (λ k. false) m) x)
         × (Has (meant.footprint (modules_of footprint_read (λ k. no_module) (declared ds)) (λ k. false) m) x → Has xs x) }

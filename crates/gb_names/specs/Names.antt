@@ -24,9 +24,9 @@ use Rattle.gb_terms.specs.Make.{node}
 use Rattle.gb_goal.specs.declared.sequent.Sequent.{Sequent}
 use Rattle.gb_goal.specs.declared.scope.Constant.{Constant}
 use Rattle.gb_goal.specs.declared.scope.OperatorType.{OperatorType}
-use Rattle.gb_goal.specs.Scope.{Declarations, constant_named, entry_of, module_of, module_type_of, operator_named, path_of, proc_of}
+use Rattle.gb_goal.specs.Scope.{Declarations, constant_named, entry_of, module_of, operator_named, path_of}
 use Rattle.gb_goal.specs.Instances.{name_of}
-use Rattle.gb_goal.specs.Interfaces.{found, signature_types, signatures_of}
+use Rattle.gb_goal.specs.Interfaces.{Interface, found, interface_of}
 use Rattle.gb_goal.specs.declared.scope.ProcName.{ProcName}
 use Rattle.gb_ended.specs.Ended.{first_unproved}
 use Rattle.gb_script.specs.declared.head.Head.{Head}
@@ -183,24 +183,19 @@ abbrev pub names_parameter : Option Module → Name → Bool
 names_parameter None x = false
 names_parameter (Some m) x = is_parameter m.params x
 
--- a procedure of a parameter of this name has this name
-abbrev pub is_oracle : Declarations → List Param → Name → Name → Bool
-is_oracle ds [] n x = false
-is_oracle ds (q ∷ qs) n x = if bytes_eq n q.name then is_some (found (signature_types (signatures_of (module_type_of ds q.ty))) x) else is_oracle ds qs n x
+-- a module has a global of this name
+abbrev pub has_global : Option Module → Name → Bool
+has_global None x = false
+has_global (Some m) x = is_some (first_named m.globals x)
 
--- .. of the module around
-abbrev pub names_oracle : Option Module → Declarations → Name → Name → Bool
-names_oracle None ds n x = false
-names_oracle (Some m) ds n x = is_oracle ds m.params n x
+-- .. or a procedure
+abbrev pub has_procedure : Option Interface → Name → Bool
+has_procedure None x = false
+has_procedure (Some i) x = is_some (found i.procedures x)
 
--- a module has a global or a procedure of this name
-abbrev pub has_member : Option Module → Name → Bool
-has_member None x = false
-has_member (Some m) x = is_some (first_named m.globals x) || is_some (proc_of m.procs x)
-
--- a global or a procedure of the module around, of a parameter of it, or of a declared module has this name
+-- a global or a procedure of the module around, or of a declared one, or a procedure of a parameter or of an abstract module has this name
 unfoldable pub names_member : Option Module → Declarations → Name → Bool
-names_member inside ds x = option_map_or (λ w. names_oracle inside ds w.0 w.1 || has_member (module_if inside ds w.0) w.1) (rsplit_once dot x) false
+names_member inside ds x = option_map_or (λ w. has_global (module_if inside ds w.0) w.1 || has_procedure (interface_of ds inside w.0) w.1) (rsplit_once dot x) false
 
 -- why a name means nothing that is declared and of the kind that is asked for: another thing has it, or nothing
 abbrev pub no_declared : Option Module → Declarations → Name → Why

@@ -6,8 +6,8 @@ ghost use Rattle.std.specs.Path.{dot, rsplit_once};
 ghost use Rattle.gb_goal.specs.Answers.{Answers, Refuses};
 ghost use Rattle.gb_goal.specs.Answers.Answer.{given};
 ghost use Rattle.gb_names.specs.Environment.{environment};
-ghost use Rattle.gb_names.specs.Names.{global_at, global_in, global_of, global_target, global_variable, has_member, has_own, module_hidden, is_oracle, is_parameter, module_if, names_member, names_oracle, names_parameter, no_declared, no_procedure, no_procedure_of, own_global, read_global, unsided};
-ghost use Rattle.gb_goal.specs.Interfaces.{found, signature_types, signatures_of};
+ghost use Rattle.gb_names.specs.Names.{global_at, global_in, global_of, global_target, global_variable, has_global, has_own, has_procedure, module_hidden, is_parameter, module_if, names_member, names_parameter, no_declared, no_procedure, no_procedure_of, own_global, read_global, unsided};
+ghost use Rattle.gb_goal.specs.Seen.{seen};
 
 use crate::bindings::Binding;
 use crate::ended::check_ended;
@@ -21,9 +21,8 @@ use gb_core::refusal::Refused;
 use gb_core::ty::Ty;
 use gb_core::var::Var;
 use gb_goal::instance::name_of;
-use gb_goal::interface::{Procedures, signatures_of};
-use gb_goal::module_type::ModuleType;
-use gb_goal::scope::{Scope, procedure_named};
+use gb_goal::interface::{Interface, interface_of};
+use gb_goal::scope::Scope;
 use gb_terms::decl::{Module, Param, TypedName};
 use gb_terms::make;
 use gb_terms::module::Mexp;
@@ -167,49 +166,28 @@ pub fn names_parameter(inside: Option<&Module>, name: &Name) -> bool
     }
 }
 
-/// Whether a procedure of a module type has this name.
-fn is_asked(ty: Option<&ModuleType>, name: &Name) -> bool
-    ensures { result ≡ is_some (found (signature_types (signatures_of (option_copied ty.entry))) name.now) }
-{
-    Procedures::Asked(signatures_of(ty)).type_of(name).is_some()
-}
-
-/// Whether a procedure of the parameter of this name has this name.
-fn is_oracle(scope: &Scope, params: &[Param], owner: &Name, name: &Name) -> bool
-    ensures { result ≡ is_oracle scope.now params.now owner.now name.now }
-{
-    for q in params {
-        if *owner == q.name {
-            return is_asked(scope.module_type(&q.ty), name);
-        }
-    }
-    false
-}
-
-/// Whether a procedure of the module around's parameter of this name has this name.
-fn names_oracle(inside: Option<&Module>, scope: &Scope, owner: &Name, name: &Name) -> bool
-    ensures { result ≡ names_oracle (option_copied inside.entry) scope.now owner.now name.now }
-{
-    match inside {
-        None => false,
-        Some(module) => is_oracle(scope, module.params.as_slice(), owner, name),
-    }
-}
-
-/// Whether a module has a global or a procedure of this name.
-fn has_member(module: Option<&Module>, name: &Name) -> bool
-    ensures { result ≡ has_member (option_copied «module».entry) name.now }
+/// Whether a module has a global of this name.
+fn has_global(module: Option<&Module>, name: &Name) -> bool
+    ensures { result ≡ has_global (option_copied «module».entry) name.now }
 {
     match module {
         None => false,
-        Some(module) => {
-            first_named(module.globals.as_slice(), name).is_some()
-                || procedure_named(module.procs.as_slice(), name).is_some()
-        }
+        Some(module) => first_named(module.globals.as_slice(), name).is_some(),
     }
 }
 
-/// Whether a global or a procedure of the module around, of a parameter of it, or of a declared module has this name.
+/// Whether a module has a procedure of this name.
+fn has_procedure(module: Option<Interface<'_>>, name: &Name) -> bool
+    ensures { result ≡ has_procedure (option_map seen «module».entry) name.now }
+{
+    match module {
+        None => false,
+        Some(module) => module.procedures.type_of(name).is_some(),
+    }
+}
+
+/// Whether a global or a procedure of the module around, or of a declared one, or a procedure of a parameter or of an abstract module has
+/// this name.
 #[tactic(auto, unfolding(crate::specs::Names::names_member))]
 pub fn names_member(
     alloc: Global,
@@ -224,8 +202,8 @@ pub fn names_member(
         Some((owner, own)) => {
             let owner = Name::from_str(alloc, owner)?;
             let own = Name::from_str(alloc, own)?;
-            let is_member = names_oracle(inside, scope, &owner, &own)
-                || has_member(module_if(inside, scope, &owner), &own);
+            let is_member = has_global(module_if(inside, scope, &owner), &own)
+                || has_procedure(interface_of(scope, inside, &owner), &own);
             Ok(is_member)
         }
     }

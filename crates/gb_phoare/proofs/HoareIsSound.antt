@@ -79,7 +79,7 @@ module _ (ds : Declarations) (scoped : IsTypedScope (declared ds)) (q : Sequent)
         let there : IsTypedThere c r a = typed_there ds scoped q t.modules t.frames r a x.declared in
         let linked : g.procedure r ≡ Some (routine a.params a.locals (statements g a.body.list) a.value) =
         subst (λ h. h.procedure r ≡ Some (routine a.params a.locals (statements h a.body.list) a.value)) (sym over.meant)
-        (linked_there ds scoped over.interpretation (let x = over.chosen in x.unchosen) r a x.declared) in
+        (linked_there ds scoped over.interpretation over.chosen r a x.declared) in
         let typed = there.typed in
         let list = typed.body in
         record {

@@ -68,7 +68,7 @@ module _ (ds : Declarations) (scoped : IsTypedScope (declared ds)) (q : Sequent)
       linked : g.procedure k.procedure ≡ Some whole
       linked =
           subst (λ h. h.procedure k.procedure ≡ Some (routine p.params p.locals (statements h p.body.list) p.value)) (sym over.meant)
-          (linked_there ds scoped over.interpretation (let x = over.chosen in x.unchosen) k.procedure p e)
+          (linked_there ds scoped over.interpretation over.chosen k.procedure p e)
 
       abbrev start : Memory
       start = start_of g j s p.params k

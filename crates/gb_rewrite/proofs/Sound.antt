@@ -331,7 +331,7 @@ module _ (es : entries.Declarations) (scope : IsTypedScope (declared es)) (q : S
         let a = x.found in
         let g = setting (declared es) k in
         let from : Memory = record { globals = m.globals; frame = new_frame g a.params a.locals vs } in
-        subst (λ o. total (outcomes_of g o vs m) ≡ outcome_denominator g o) (sym (linked_there es scope k (let y = chosen in y.unchosen) p a x.declared))
+        subst (λ o. total (outcomes_of g o vs m) ≡ outcome_denominator g o) (sym (linked_there es scope k chosen p a x.declared))
         (mass-dmap (λ n. outcome n.globals (valued g closed a.value n)) (run g closed a.body.list from) (λ n. 1) ∙ x.total closed from)
 
   known : InEachSequent (declared es) q Known

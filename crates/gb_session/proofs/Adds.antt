@@ -17,7 +17,7 @@ use Rattle.gb_elab_prog.specs.Modules.{module_given}
 use Rattle.gb_theory.specs.Limits.{declaration_limit, each_limit, all_limit}
 use Rattle.gb_state.specs.declared.state.Claim.{Claim}
 use Rattle.gb_state.specs.declared.state.Claim.TheVariants as claim
-use Rattle.gb_theory.specs.Built.{Session, OpenProof, with_goals, with_proved}
+use Rattle.gb_theory.specs.Built.{Session, OpenProof, seen_in, with_goals, with_proved}
 use Rattle.gb_theory.specs.Combinators.{works}
 use Rattle.gb_theory.specs.Commands.{within, outside, brought, requires_files, brings, declares, loops_opened, opens, opens_loops, begun, ended, continued, WorksOn, InProof, ComesToOf, ComesTo}
 use Rattle.gb_session.proofs.Given.{nothing_given, given_is, given_bind, given_placed, if_given}
@@ -92,7 +92,7 @@ closed (q ∷ qs) s p place t e = nothing_given _ _ t e
 worked : (qs : List Sequent) (s : Session) (p : OpenProof) (c : Node) (place : Place) (t : Session) → WorksOn qs s p c place (given t) → IsInFront s t
 worked [] s p c place t w = nothing_given _ _ t (sym w)
 worked (q ∷ rest) s p c place t w =
-    let a = given_bind (works w.0 c (q ∷ [])) (continued s p rest place) t (sym w.2) in
+    let a = given_bind (works (seen_in s.scope p.claim) w.0 c (q ∷ [])) (continued s p rest place) t (sym w.2) in
     let b = given_bind (within (all_limit (a.0 ++ rest)) place) _ t a.2 in
     subst (IsInFront s) (given_is _ t b.2) (record { scope = whole s.scope; lemmas = whole s.lemmas })
 

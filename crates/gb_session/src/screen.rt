@@ -10,7 +10,6 @@ ghost use Rattle.gb_session.specs.Screen.{shown_of, first_goal, screen_in, scree
 use gb_print::goal::print_goal;
 use gb_shapes::place::Enumeration;
 use gb_state::state::{OpenProof, State};
-use gb_steps::goals::Goals;
 use std::alloc::{AllocError, Global};
 
 /// Whether a proof is open, and how many goals it has left.
@@ -34,12 +33,13 @@ fn put_first(
     text: &mut Vec<u8>,
     state: &State,
     enumerations: &[Enumeration],
-    goals: &Goals,
+    proof: &OpenProof,
 ) -> Result<(), AllocError>
-    ensures { OnOk result (text.new.items ≡ text.old.items ++ first_goal (stage_of state.now enumerations.now) goals.now) }
+    ensures { OnOk result (text.new.items ≡ text.old.items ++ first_goal (stage_of state.now enumerations.now) proof.now.claim proof.now.goals) }
 {
-    if let Some(first) = goals.get(0) {
-        let mut goal = print_goal(alloc, &state.scope, enumerations, first)?;
+    if let Some(first) = proof.goals.get(0) {
+        let first = proof.in_context(alloc, first)?;
+        let mut goal = print_goal(alloc, &state.scope, enumerations, &first)?;
         text.append(&mut goal)?;
     }
     Ok(())
@@ -56,7 +56,7 @@ fn open_screen(
     let count = proof.goals.len();
     let line = format!(in alloc; "goals {count}\n")?;
     let mut text = line.into_bytes();
-    put_first(alloc, &mut text, state, enumerations, &proof.goals)?;
+    put_first(alloc, &mut text, state, enumerations, proof)?;
     Ok(text)
 }
 

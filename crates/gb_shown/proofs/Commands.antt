@@ -45,7 +45,7 @@ use Rattle.gb_accepted.proofs.Grounds.{Grounds}
 use Rattle.gb_accepted.proofs.LoopProofs.{named}
 use Rattle.gb_accepted.proofs.Declarations.{assumes_nothing}
 use Rattle.gb_shown.proofs.Grounds.{Names}
-use Rattle.gb_shown.proofs.Stages.{AreDeclared, IsNamedClaim, IsNamedProof, IsNamedSession, none_more, declared_later, declared_behind}
+use Rattle.gb_shown.proofs.Stages.{AreDeclared, IsNamedClaim, IsNamedProof, IsNamedSession, alone_named, none_more, declared_later, declared_behind}
 use Rattle.gb_shown.proofs.Steps.{works_named}
 
 -- what a tree that is read names
@@ -127,7 +127,7 @@ module _ (o : Grounds) (names : Names) (es : List Enumeration) (s : Session) (g 
       let d = given_bind (within (declaration_limit (declarations_in s.scope)) place) _ next b.2 in
       let f = given_bind (within (each_limit (b.0 ∷ [])) place) _ next d.2 in
       let n = names.scripts.statements es s.scope k.scope c read b.0 b.1 in
-      subst (IsNamedSession es) (given_is _ _ f.2) (record { scope = k.scope; listed = k.listed; proof = ((path, n), (n.sequent, tt)) })
+      subst (IsNamedSession es) (given_is _ _ f.2) (record { scope = k.scope; listed = k.listed; proof = ((path, n), (alone_named es b.0 n.sequent, tt)) })
 
   -- the procedure whose loops are to be shown to end
   loops_named : (f : Found) → procedure_of s.scope (named f.0) ≡ Some f.1 → (is_path (path_of f.0) ≡ true) × AllByRecursion (IsNamedSequent es) (goals_of f.1.body.list)

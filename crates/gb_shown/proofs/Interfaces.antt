@@ -9,15 +9,17 @@ use Rattle.gb_terms.specs.declared.decl.Proc.{Proc}
 use Rattle.gb_terms.specs.declared.module.Mexp.{Mexp}
 use Rattle.gb_terms.specs.declared.module.Mexp.TheVariants.{Name as named, Apply'}
 use Rattle.gb_terms.specs.declared.module.ProcRef.{ProcRef}
-use Rattle.gb_goal.specs.Interfaces.{Interface, Procedures, ProcedureType, found, given, interface_at, interface_of, interfaces_at, lacking, left_over, of_complete, of_declared, of_inner, of_module, of_type, procedure_in, procedure_type, procedure_types, signature_types, type_of_procedure}
-use Rattle.gb_goal.specs.Scope.{Declarations, module_of, module_type_of}
+use Rattle.gb_goal.specs.Interfaces.{Interface, Procedures, ProcedureType, found, given, interface_at, interface_of, interfaces_at, lacking, left_over, of_complete, of_declared, of_entry, of_inner, of_module, of_type, procedure_in, procedure_type, procedure_types, signature_types, type_of_procedure}
+use Rattle.gb_goal.specs.Scope.{Declarations, entry_of, module_type_of}
 use Rattle.gb_goal.specs.declared.module_type.ModuleType.{ModuleType}
 use Rattle.gb_goal.specs.declared.module_type.Signature.{Signature}
+use Rattle.gb_goal.specs.declared.scope.Entry.{Entry}
+use Rattle.gb_goal.specs.declared.scope.Entry.TheVariants as entry
 use Rattle.gb_meaning.specs.Names.{Name}
 use Rattle.gb_shapes.specs.declared.place.Enumeration.{Enumeration}
 use Rattle.gb_readback.specs.Written.{is_name_text, is_path}
 use Rattle.gb_shown.specs.Scopes.{AreNamedTypes, IsNamedAround, IsNamedInterface, IsNamedMember, IsNamedModule, IsNamedParam, IsNamedProcedureType, IsNamedScope, IsNamedSignature}
-use Rattle.gb_shown.proofs.FoundInForms.{module_found, path_of, type_signatures}
+use Rattle.gb_shown.proofs.FoundInForms.{entry_found, path_of, type_signatures}
 use Rattle.gb_shown.proofs.FoundInScopes.{params_named}
 use Rattle.gb_shown.proofs.Given.{same_some}
 
@@ -59,16 +61,18 @@ module _ (es : List Enumeration) where
     abbrev Known : Name → Interface → Type 0
     Known x i = (is_path x ≡ true) × IsNamedInterface i
 
-    declared_known : (x : Name) (i : Interface) → of_declared ds x ≡ Some i → Known x i
-    declared_known x i e = step (module_of ds x) refl e
-      where
-        step : (o : Option Module) → module_of ds x ≡ o → option_map of_module o ≡ Some i → Known x i
-        step (Some m) j f = let n = module_found es ds k x m j in (n.0, subst IsNamedInterface (same_some f) (of_module_named m n.1))
-        step None j f = cc
-
     parameter_named : (o : Option ModuleType) → ((t : ModuleType) → o ≡ Some t → AllByRecursion IsNamedSignature t.signatures) → (i : Interface) → option_map of_type o ≡ Some i → IsNamedInterface i
     parameter_named (Some t) n i e = subst IsNamedInterface (same_some e) (of_type_named t (n t refl))
     parameter_named None n i e = cc
+
+    declared_known : (x : Name) (i : Interface) → of_declared ds x ≡ Some i → Known x i
+    declared_known x i e = step (entry_of ds x) refl e
+      where
+        step : (o : Option Entry) → entry_of ds x ≡ o → of_entry ds o ≡ Some i → Known x i
+        step (Some (entry.Module m)) j f = let n = entry_found es ds k x (entry.Module m) j in (n.0, subst IsNamedInterface (same_some f) (of_module_named m n.1))
+        step (Some (entry.AbstractModule b)) j f =
+            let n = entry_found es ds k x (entry.AbstractModule b) j in (n.0, parameter_named (module_type_of ds b.ty) (λ t u. type_signatures es ds k b.ty t u) i f)
+        step _ j f = cc
 
     inner_known : (m : Module) → IsNamedModule es m → (qs : List Param) → AllByRecursion IsNamedParam qs → (x : Name) (i : Interface) → of_inner ds m qs x ≡ Some i → Known x i
     inner_known m n [] c x i e = step (bytes_eq x m.name) refl e

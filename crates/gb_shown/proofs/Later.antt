@@ -165,6 +165,7 @@ module _ (more : List Enumeration) where
     entry_later (entry.Type t) k = (k.0, first_later t k.1)
     entry_later entry.AbstractType k = tt
     entry_later (entry.ModuleType t) k = k
+    entry_later (entry.AbstractModule b) k = k
     entry_later (entry.Constant c) k = (k.0, word_later (out-Ty c.ty) c.number k.1)
     entry_later (entry.Operator o) k = (k.0, named_later o.body k.1)
     entry_later (entry.AbstractOperator o) k = k

@@ -21,7 +21,7 @@ use Rattle.gb_shown.proofs.Later.{both_hold}
 
 -- nodes that lack the name in front of their parts: no part of a whole tree is one
 abbrev bad : Sort
-bad = 48 ∷ 66 ∷ 69 ∷ []
+bad = 48 ∷ 49 ∷ 66 ∷ 69 ∷ []
 
 abbrev role_fine : Role → Bool
 role_fine (item o j) = apart o bad && (not (nat_eq name_kind j) && not (nat_eq names_kind j))
@@ -206,6 +206,7 @@ names_by_head head.Values p good w =
   where
     by_fits : (x : Node) (ys : List Node) → IsName x → Fits signatures (signature head.Values).parts.first (signature head.Values).parts.rest ys → EachOf IsWorded ys → HasItsNames head.Values (x ∷ ys)
     by_fits x ys n (next {x = y} {xs = zs} i f) (each_more v u) = (n, names_in i v)
+names_by_head head.ModuleBind p good w = in_front head.ModuleBind 6 refl refl refl p good w (λ x ys n f u. n)
 names_by_head head.Module p good w = in_front head.Module 18 refl refl refl p good w (λ x ys n f u. n)
 names_by_head head.AscribedModule p good w = in_front head.AscribedModule 18 refl refl refl p good w (λ x ys n f u. n)
 names_by_head head.HaveForm p good w = in_front head.HaveForm 37 refl refl refl p good w (λ x ys n f u. n)

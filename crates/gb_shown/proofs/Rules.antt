@@ -237,7 +237,7 @@ module _ (forms : OfForms) (es : List Enumeration) (ds : Declarations) (k : IsNa
   used_named text.ApplyLemma x [] w s l p r e = none_built p r e
   used_named text.ApplyLemma x (a ∷ b ∷ ps) w s l p r e = none_built p r e
   used_named text.HaveLemma x (m ∷ t ∷ []) w s l p r e =
-      let a = given_bind (new_name q (text_of m) (place_of m)) _ r e in
+      let a = given_bind (new_name ds q (text_of m) (place_of m)) _ r e in
       let b = given_bind (used ds q t) _ r a.2 in
       subst (AreNamedArguments es) (given_is _ r b.2) (s, used_is_named forms es ds k q n t l.1.0 b.0 b.1)
   used_named text.HaveLemma x [] w s l p r e = none_built p r e
@@ -250,7 +250,7 @@ module _ (forms : OfForms) (es : List Enumeration) (ds : Declarations) (k : IsNa
 
   have_named : (m f : Node) → IsName m → IsReadTree f → Gives (have_rule ds q m f)
   have_named m f i l r e =
-      let a = given_bind (new_name q (text_of m) (place_of m)) _ r e in
+      let a = given_bind (new_name ds q (text_of m) (place_of m)) _ r e in
       let b = given_bind (formed ds q f) _ r a.2 in
       subst (AreNamedArguments es) (given_is _ r b.2) (i, formed_named forms es ds k q n f l b.0 b.1)
 

@@ -1,15 +1,18 @@
 -- Sessions in which what is declared and what is open is named.
 use Rattle.std.proofs.Common.{◌≡◌, ℕ, Bool, true, false, is_some, if◌then◌else◌, bytes_eq, List, [], ◌∷◌, ◌++◌, append-nil, Option, Some, None, refl, sym, subst}
 use Rattle.std.specs.List.{AllByRecursion}
+use Rattle.gb_goal.specs.Binders.{with_declared_modules}
 use Rattle.gb_goal.specs.Scope.{Declarations, entry_of, path_of}
+use Rattle.gb_goal.specs.declared.sequent.Sequent.{Sequent}
 use Rattle.gb_shapes.specs.declared.place.Enumeration.{Enumeration}
 use Rattle.gb_readback.specs.Written.{is_path}
-use Rattle.gb_spelt_laws.specs.Named.{IsNamedSequent}
+use Rattle.gb_spelt_laws.specs.Named.{IsNamedBind, IsNamedSequent}
 use Rattle.gb_shown.specs.Scopes.{IsNamedScope, IsNamedStatement}
 use Rattle.gb_shown.proofs.Later.{all_so}
 use Rattle.gb_theory.specs.Built.{Session, OpenProof}
 use Rattle.gb_state.specs.declared.state.Claim.{Claim}
 use Rattle.gb_state.specs.declared.state.Claim.TheVariants as claim
+use Rattle.gb_state.specs.Opened.{in_context, modules_of}
 use Rattle.gb_session.specs.History.{Stage, fresh_stage}
 use Rattle.gb_accepted.proofs.Good.{IsGood, fresh_is_good}
 
@@ -21,6 +24,18 @@ AreDeclared es ds = AllByRecursion (λ (e : Enumeration). is_some (entry_of ds e
 abbrev pub IsNamedClaim : List Enumeration → Claim → Type 0
 IsNamedClaim es (claim.Lemma n q bs) = (is_path n ≡ true) × IsNamedStatement es q
 IsNamedClaim es (claim.Loops f) = is_path (path_of f) ≡ true
+
+-- the modules that are declared while the steps of its proof run
+pub claim_modules : (es : List Enumeration) (c : Claim) → IsNamedClaim es c → AllByRecursion IsNamedBind (modules_of c)
+claim_modules es (claim.Lemma n q bs) k = let s = k.1 in let w = s.sequent in w.modules
+claim_modules es (claim.Loops f) k = tt
+
+-- a goal is named as it is shown, with these modules in its context, and with none
+pub shown_named : (es : List Enumeration) (c : Claim) (q : Sequent) → IsNamedClaim es c → IsNamedSequent es q → IsNamedSequent es (in_context c q)
+shown_named es c q k n = record { variables = n.variables; memories = n.memories; modules = claim_modules es c k; hyps = n.hyps; conclusion = n.conclusion }
+
+pub alone_named : (es : List Enumeration) (q : Sequent) → IsNamedSequent es q → IsNamedSequent es (with_declared_modules q)
+alone_named es q n = record { variables = n.variables; memories = n.memories; modules = tt; hyps = n.hyps; conclusion = n.conclusion }
 
 abbrev pub IsNamedProof : List Enumeration → Option OpenProof → Type 0
 IsNamedProof es None = Unit {0}

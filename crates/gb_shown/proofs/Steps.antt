@@ -2,6 +2,7 @@
 use Rattle.std.proofs.Common.{◌≡◌, List, [], ◌∷◌, ◌++◌, codes, ap, sym, ◌∙◌, subst}
 use Rattle.std.specs.List.{AllByRecursion}
 use Rattle.gb_core.specs.declared.place.Place.{Place}
+use Rattle.gb_terms.specs.declared.module.Bind.{Bind}
 use Rattle.gb_goal.specs.declared.sequent.Sequent.{Sequent}
 use Rattle.gb_script.specs.declared.head.Head.TheVariants as head
 use Rattle.gb_script.specs.declared.tree.Node.{Node, Node-F, out-Node, out-roll-Node}
@@ -20,19 +21,21 @@ use Rattle.gb_spelt_laws.specs.Named.{IsNamedSequent}
 use Rattle.gb_shown.specs.Scopes.{IsNamedScope}
 use Rattle.gb_shown.specs.Trees.{HasItsParts}
 use Rattle.gb_shown.specs.Words.{HasItsNames, IsReadNode, IsReadTree}
+use Rattle.gb_state.specs.Opened.{modules_of}
 use Rattle.gb_theory.specs.Built.{Session, OpenProof}
 use Rattle.gb_theory.specs.Limits.{each_limit, all_limit}
 use Rattle.gb_theory.specs.Combinators.{done_at, works}
 use Rattle.gb_theory.specs.Commands.{within, Applied, allowed, RuleAnswers, continued, WorksOn}
-use Rattle.gb_accepted.proofs.Claims.{claim_continues}
+use Rattle.gb_accepted.proofs.Claims.{claim_continues, claim_scope}
 use Rattle.gb_accepted.proofs.Given.{nothing_given, given_after}
 use Rattle.gb_accepted.proofs.Good.{IsGoodClaim, IsGood}
-use Rattle.gb_accepted.proofs.Grounds.{IsGoalThatEnds, Grounds}
-use Rattle.gb_accepted.proofs.Kept.{AreKept, each_kept}
+use Rattle.gb_accepted.proofs.Grounds.{IsGoalThatEnds, Grounds, seen}
+use Rattle.gb_accepted.proofs.Kept.{IsSeen, each_kept}
 use Rattle.gb_accepted.proofs.Steps.{rule_leads}
 use Rattle.gb_accepted.proofs.Tactics.{Lead, tactic_keeps}
 use Rattle.gb_shown.proofs.Grounds.{Names}
-use Rattle.gb_shown.proofs.Stages.{IsNamedClaim, IsNamedSession}
+use Rattle.gb_shown.proofs.Settings.{seen_named}
+use Rattle.gb_shown.proofs.Stages.{IsNamedClaim, IsNamedSession, claim_modules}
 
 -- a goal that rules may work on, in which names are names
 pub record IsWorked (es : List Enumeration) (ds : Declarations) (q : Sequent) : Type 0 where
@@ -73,16 +76,18 @@ done_read place =
     plain_is_no_name e = cc
 
 module _ (o : Grounds) (names : Names) (es : List Enumeration) (s : Session) (g : IsGood s) (scope : IsNamedScope es s.scope) where
-  rule_keeps : AreKept s.scope → (t : Node) → IsReadTree t → (q : Sequent) → IsWorked es s.scope q → (rs : List Sequent) → RuleAnswers s.scope t q (given rs) → Lead (IsWorked es s.scope) Any (q ∷ []) rs
-  rule_keeps kept t read q w rs h =
-      let ds = s.scope in
+  -- over what the steps of a proof see
+  rule_keeps : (bs : List Bind) → IsSeen s.scope bs → IsNamedScope es (seen s.scope bs) → (t : Node) → IsReadTree t → (q : Sequent) → IsWorked es (seen s.scope bs) q → (rs : List Sequent) →
+      RuleAnswers (seen s.scope bs) t q (given rs) → Lead (IsWorked es (seen s.scope bs)) Any (q ∷ []) rs
+  rule_keeps bs known all t read q w rs h =
+      let ds = seen s.scope bs in
       let a = given_after (step_given ds q t) (λ (step : Step) (x : Answer (List Sequent)). (y : Answer (List Sequent)) × Applied ds step.rule step.place q y × (x ≡ (y >>= allowed step.place))) rs h in
       let b = given_bind a.2.0 (allowed a.0.place) rs (sym a.2.2) in
       let c = given_bind (within (each_limit b.0) a.0.place) (λ _. given b.0) rs b.2 in
       let applied : Applied ds a.0.rule a.0.place q (given b.0) = subst (Applied ds a.0.rule a.0.place q) b.1 a.2.1 in
-      let given_named = names.scripts.steps es ds g.typed scope q w.goal.typed w.named t read a.0 a.1 in
-      let named = names.goals.rules es ds g.typed scope q w.goal.typed w.named a.0.rule given_named a.0.place b.0 applied in
-      let k = rule_leads o s g kept t q w.goal rs h in
+      let given_named = names.scripts.steps es ds known.typed all q w.goal.typed w.named t read a.0 a.1 in
+      let named = names.goals.rules es ds known.typed all q w.goal.typed w.named a.0.rule given_named a.0.place b.0 applied in
+      let k = rule_leads o s.scope bs known t q w.goal rs h in
       record { typed = each_worked es ds rs k.typed (subst (AllByRecursion (IsNamedSequent es)) (given_is b.0 rs c.2) named); leads = λ _. (tt, tt) }
 
   -- the proof goes on with other goals
@@ -96,10 +101,13 @@ module _ (o : Grounds) (names : Names) (es : List Enumeration) (s : Session) (g 
       AllByRecursion (IsNamedSequent es) gs → WorksOn gs s p t place (given next) → IsNamedSession es next
   works_named [] p t read place next k h c n w = nothing_given _ _ next (sym w)
   works_named (q ∷ rest) p t read place next k h c n w =
-      let first = claim_continues o s.scope g.typed p.claim q rest h in
-      let b = given_bind (works w.0 t (q ∷ [])) (continued s p rest place) next (sym w.2) in
-      let kept = each_kept o s g in
+      let first = claim_continues o s.scope g.typed g.firm p.claim q rest h in
+      let bs = modules_of p.claim in
+      let ds = seen s.scope bs in
+      let b = given_bind (works ds w.0 t (q ∷ [])) (continued s p rest place) next (sym w.2) in
+      let known = each_kept o bs s g (claim_scope s g p.claim (q ∷ rest) h) in
+      let all = seen_named es s.scope scope bs (claim_modules es p.claim c) in
       let lead =
-      tactic_keeps (IsWorked es s.scope) Any IsReadNode w.0 (λ m r u rs good e. rule_keeps kept m r u good rs (subst (RuleAnswers s.scope m u) e (w.1 m u)))
+      tactic_keeps (IsWorked es ds) Any ds IsReadNode w.0 (λ m r u rs good e. rule_keeps bs known all m r u good rs (subst (RuleAnswers ds m u) e (w.1 m u)))
       done_read t read (q ∷ []) b.0 (record { goal = first.goal; named = n.0 }, tt) b.1 in
-      continued_named p rest b.0 place next k c (all_append (IsNamedSequent es) b.0 rest (each_named es s.scope b.0 lead.typed) n.1) b.2
+      continued_named p rest b.0 place next k c (all_append (IsNamedSequent es) b.0 rest (each_named es ds b.0 lead.typed) n.1) b.2

@@ -20,7 +20,7 @@ use Rattle.gb_names.specs.declared.setting.Variables.{Variables}
 use Rattle.gb_names.specs.declared.setting.Variables.TheVariants.{Absent, Own, Sides}
 use Rattle.gb_shapes.specs.declared.place.Enumeration.{Enumeration}
 use Rattle.gb_readback.specs.Written.{is_name_text, is_path, is_word_here, IsWrittenType}
-use Rattle.gb_spelt_laws.specs.Named.{IsNamedType, IsNamedResult, IsNamed, IsNamedVariable, IsNamedSequent}
+use Rattle.gb_spelt_laws.specs.Named.{IsNamedType, IsNamedResult, IsNamed, IsNamedVariable, IsNamedBind, IsNamedSequent}
 use Rattle.gb_spelt_laws.specs.Rules.{HasFirst, IsNamedProcedure}
 
 -- What is declared.
@@ -69,6 +69,7 @@ IsNamedEntry es (entry.Lemma q bs) = IsNamedStatement es q
 IsNamedEntry es (entry.Type t) = IsWrittenType 0 [] t × HasFirst es t
 IsNamedEntry es entry.AbstractType = Unit {0}
 IsNamedEntry es (entry.ModuleType t) = AllByRecursion IsNamedSignature t.signatures
+IsNamedEntry es (entry.AbstractModule b) = IsNamedBind b
 IsNamedEntry es (entry.Constant c) = IsNamedType c.ty × (is_word_here es (out-Ty c.ty) c.number ≡ true)
 IsNamedEntry es (entry.Operator o) = AllByRecursion IsNamedType o.params × IsNamed es o.body
 IsNamedEntry es (entry.AbstractOperator o) = AllByRecursion IsNamedType o.params × IsNamedType o.result

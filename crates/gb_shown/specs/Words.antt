@@ -16,6 +16,7 @@ IsName x = is_name_text (text_of x) ≡ true
 abbrev pub HasItsNames : Head → List Node → Type 0
 HasItsNames head.Values (x ∷ xs ∷ ts) = IsName x × AllByRecursion IsName (parts_of xs)
 HasItsNames head.Memory (x ∷ ps) = IsName x
+HasItsNames head.ModuleBind (x ∷ ps) = IsName x
 HasItsNames head.Module (x ∷ ps) = IsName x
 HasItsNames head.AscribedModule (x ∷ ps) = IsName x
 HasItsNames head.Globals (xs ∷ ts) = AllByRecursion IsName (parts_of xs)

@@ -7,13 +7,14 @@ use gb_closing_laws::linear_laws::linear_is_sound;
 use gb_closing_laws::smt_laws::sound_smt;
 use gb_elab_laws::declaration_laws::{entries, lemmas, modules, statements};
 use gb_elab_laws::step_laws::{typed_forms, typed_rules};
+use gb_holds::truth_laws::declared_modules;
 use gb_models::promise_laws::{equivalences_give_couplings, typed_scopes_have_models};
 use gb_models::stay_laws::{goals_stay, goals_stay_typed, parts_of_scopes};
 use gb_typing::goal_laws::{fronts, typing};
 use gb_typing::rule_laws::{contexts, sequents};
 
-/// Each goal that a session shows, wherever its lines have led to, is read back as that goal: what is printed of it spells its tree,
-/// and no other, and is read wherever it has fewer than 2^31 bytes.
+/// Each goal that a session shows, wherever its lines have led to, is read back as that goal, with the modules that its lemma binds: what is
+/// printed of it spells its tree, and no other, and is read wherever it has fewer than 2^31 bytes.
 pub fn shown_goals_are_read()
     ensures { (h : History) → IsReached h → IsReadBack h.present }
 {
@@ -67,6 +68,7 @@ pub fn shown_goals_are_read()
     equivalences_give_couplings();
     goals_stay();
     goals_stay_typed();
+    declared_modules();
     parts_of_scopes();
     gb_spelt_laws::name_laws::steps();
     gb_spelt_laws::name_laws::termination();

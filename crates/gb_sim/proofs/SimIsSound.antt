@@ -59,7 +59,7 @@ module _ (ds : Declarations) (scoped : IsTypedScope (declared ds)) (t : Sequent)
   linked : (g : Setting) → IsSettingOver (declared ds) g → (p : ProcRef) (a : Proc) → procedure_of ds p ≡ Some a → g.procedure p ≡ Some (routine a.params a.locals (statements g a.body.list) a.value)
   linked g over p a e =
       subst (λ h. h.procedure p ≡ Some (routine a.params a.locals (statements h a.body.list) a.value)) (sym over.meant)
-      (linked_there ds scoped over.interpretation (let x = over.chosen in x.unchosen) p a e)
+      (linked_there ds scoped over.interpretation over.chosen p a e)
 
   module _ (ls rs : List TypedName) (is js : List Instr) (same : is ≡ js) (p q : Term) (w : IsGoalOver c ls rs (equiv (body is) (body js) p q))
       (V W : Vars) (equal : equal_in q ≡ Some V) (needed : need ds is V ≡ Some W) where

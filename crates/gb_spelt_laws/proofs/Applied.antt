@@ -97,8 +97,8 @@ module _ (es : List Enumeration) (ds : scope.Declarations) (globals : AreNamedGl
 
     guard_keeps : (a : Acts) (i : ℕ) (b : Bool) (place : Place) (qs : List Sequent) → given qs ≡ on_guard ds a i b place q → Keeps qs
     guard_keeps acts.All i b place qs e = by_row _ (transformations_keep es ds procedures acts.All (transformation.Decided i b)) place qs e
-    guard_keeps acts.Left i b place qs e = beside_keeps es q n i b acts.Left place qs (sym e)
-    guard_keeps acts.Right i b place qs e = beside_keeps es q n i b acts.Right place qs (sym e)
+    guard_keeps acts.Left i b place qs e = beside_keeps es ds q n i b acts.Left place qs (sym e)
+    guard_keeps acts.Right i b place qs e = beside_keeps es ds q n i b acts.Right place qs (sym e)
 
     transformed_keeps : (a : Acts) (k : Transformation) (place : Place) (qs : List Sequent) → given qs ≡ transformed ds a k place q → Keeps qs
     transformed_keeps a (transformation.Decided i b) place qs e = guard_keeps a i b place qs e

@@ -16,6 +16,7 @@ use Rattle.gb_goal.specs.Goal.{Goal, goal_of}
 use Rattle.gb_goal.specs.Goal.Code.{body}
 use Rattle.gb_goal.specs.Goal.Goal.{hoare}
 use Rattle.gb_goal.specs.Rows.{refusing}
+use Rattle.gb_goal.specs.Scope.{Declarations}
 use Rattle.gb_goal.specs.declared.sequent.Sequent.{Sequent}
 use Rattle.gb_typing.proofs.Given.{refused_at, refused_given, same_given}
 use Rattle.gb_parts.specs.OneBody.{OneBody}
@@ -24,11 +25,10 @@ use Rattle.gb_call_both.specs.OneSide.{speaks}
 use Rattle.gb_trans.specs.Places.{At, statement_at}
 use Rattle.gb_premises.specs.Decided.{deciding}
 use Rattle.gb_guards.specs.Decided.{Decision, decision}
-use Rattle.gb_beside.specs.Beside.{other, beside, memory_name, known_beside, by_decision, at_place, on_body, one_of_two, beside_answer}
+use Rattle.gb_beside.specs.Beside.{other, beside, memory_name, names_around, known_beside, by_decision, at_place, on_body, one_of_two, beside_answer}
 use Rattle.gb_shapes.specs.declared.place.Enumeration.{Enumeration}
 use Rattle.gb_shapes.specs.Names.{Name, is_among}
 use Rattle.gb_print_names.specs.Occurring.{judgment_locals}
-use Rattle.gb_print_text.specs.Goals.{context_names}
 use Rattle.gb_readback.specs.Written.{is_name_text}
 use Rattle.gb_spelt_laws.specs.Named.{IsNamedGoal, IsNamedSequent}
 use Rattle.gb_spelt_laws.proofs.Marked.{primed_name, name_m}
@@ -38,18 +38,18 @@ use Rattle.gb_spelt_laws.proofs.Rows.{form_named, all_concluding}
 use Rattle.gb_spelt_laws.proofs.Sequents.{all_append}
 use Rattle.gb_spelt_laws.proofs.Transformed.{NamedAt, NamedDecision, at_named, place_keeps, decision_named, deciding_named, left_named}
 
-module _ (es : List Enumeration) (q : Sequent) (n : IsNamedSequent es q) where
+module _ (es : List Enumeration) (ds : Declarations) (q : Sequent) (n : IsNamedSequent es q) where
   abbrev Keeps : List Sequent → Type 0
   Keeps qs = AllByRecursion (IsNamedSequent es) qs
 
   abbrev taken : List Name
-  taken = judgment_locals (out-Term q.conclusion).head (out-Term q.conclusion).args (context_names q)
+  taken = judgment_locals (out-Term q.conclusion).head (out-Term q.conclusion).args (names_around ds q)
 
   module _ (t : Bool) (o : OneBody) (a : Around es o) where
-    known_named : (k : At) (d : Decision) → NamedAt es k → NamedDecision es d → IsNamedSequent es (known_beside t q o k d)
+    known_named : (k : At) (d : Decision) → NamedAt es k → NamedDecision es d → IsNamedSequent es (known_beside ds t q o k d)
     known_named k d m x = record {
       variables = n.variables;
-      memories = all_append (λ m. is_name_text m ≡ true) q.memories (memory_name q ∷ []) n.memories (primed_name 109 refl name_m (length taken) (is_among taken), tt);
+      memories = all_append (λ m. is_name_text m ≡ true) q.memories (memory_name ds q ∷ []) n.memories (primed_name 109 refl name_m (length taken) (is_among taken), tt);
       modules = n.modules;
       hyps = n.hyps;
       conclusion =
@@ -57,23 +57,23 @@ module _ (es : List Enumeration) (q : Sequent) (n : IsNamedSequent es q) where
           (m.before, changed_named es o.pre (ToSide o.side side.Own ∷ ToSide (other o.side) (side.Memory (length q.memories)) ∷ []) (tt, (tt, tt)) a.pre, deciding_named es t d.guard x.guard);
     }
 
-    decision_keeps : (k : At) → NamedAt es k → (qs : List Sequent) (r : Option Decision) → ((d : Decision) → r ≡ Some d → NamedDecision es d) → by_decision t q o k r ≡ given qs → Keeps qs
+    decision_keeps : (k : At) → NamedAt es k → (qs : List Sequent) (r : Option Decision) → ((d : Decision) → r ≡ Some d → NamedDecision es d) → by_decision ds t q o k r ≡ given qs → Keeps qs
     decision_keeps k m qs None f e = refused_given Shape qs e
     decision_keeps k m qs (Some d) f e =
         let x = f d refl in
         let rest = all_concluding es q n (o.goal (k.before ++ (d.left ++ k.rest)) o.pre o.post ∷ []) (a.goal (k.before ++ (d.left ++ k.rest)) o.pre o.post (left_named es k d m x) a.pre a.post, tt) in
         subst Keeps (same_given _ qs e) (known_named k d m x, rest)
 
-    place_keep : (i : ℕ) (qs : List Sequent) → at_place i t q o ≡ given qs → Keeps qs
+    place_keep : (i : ℕ) (qs : List Sequent) → at_place ds i t q o ≡ given qs → Keeps qs
     place_keep i qs e =
-        place_keeps es Keeps (λ k. by_decision t q o k (decision t k.statement (out-Instr k.statement))) qs
+        place_keeps es Keeps (λ k. by_decision ds t q o k (decision t k.statement (out-Instr k.statement))) qs
         (λ k m h. decision_keeps k m qs (decision t k.statement (out-Instr k.statement)) (λ d u. decision_named es t k.statement m.statement (out-Instr k.statement) refl d u) h) (statement_at i o.list) (λ k u. at_named es i o.list a.list k u) e
 
-    unless_speaking : (b : Bool) (i : ℕ) (qs : List Sequent) → (if b then refusing Shape else at_place i t q o) ≡ given qs → Keeps qs
+    unless_speaking : (b : Bool) (i : ℕ) (qs : List Sequent) → (if b then refusing Shape else at_place ds i t q o) ≡ given qs → Keeps qs
     unless_speaking true i qs e = refused_given Shape qs e
     unless_speaking false i qs e = place_keep i qs e
 
-  body_keeps : (i : ℕ) (t : Bool) (r : Option OneBody) → ((o : OneBody) → r ≡ Some o → Around es o) → (qs : List Sequent) → on_body i t q r ≡ given qs → Keeps qs
+  body_keeps : (i : ℕ) (t : Bool) (r : Option OneBody) → ((o : OneBody) → r ≡ Some o → Around es o) → (qs : List Sequent) → on_body ds i t q r ≡ given qs → Keeps qs
   body_keeps i t None f qs e = refused_given Shape qs e
   body_keeps i t (Some o) f qs e = unless_speaking t o (f o refl) (speaks o.pre) i qs e
 
@@ -86,11 +86,11 @@ module _ (es : List Enumeration) (q : Sequent) (n : IsNamedSequent es q) where
   placed_keeps place qs (given rs) f e = subst Keeps (same_given rs qs e) (f rs refl)
   placed_keeps place qs (refused w p) f e = refused_at w _ qs e
 
-  pub beside_keeps : (i : ℕ) (t : Bool) (a : Acts) (place : Place) (qs : List Sequent) → beside_answer i t a place q ≡ given qs → Keeps qs
+  pub beside_keeps : (i : ℕ) (t : Bool) (a : Acts) (place : Place) (qs : List Sequent) → beside_answer ds i t a place q ≡ given qs → Keeps qs
   beside_keeps i t a place qs e = step (goal_quantifies_modules q) e
     where
       answer : Answer (List Sequent)
-      answer = on_body i t q (one_of_two a (goal_of q.conclusion))
+      answer = on_body ds i t q (one_of_two a (goal_of q.conclusion))
 
       step : (b : Bool) → (if b then refused Shape place else placed_at place answer) ≡ given qs → Keeps qs
       step true e = refused_at Shape place qs e

@@ -1,10 +1,12 @@
 -- A typed goal in which names are names can be written in the language.
-use Rattle.std.proofs.Common.{◌≡◌, true, false, List, [], ◌∷◌, Option, Some, None, refl, sym, subst}
-use Rattle.std.specs.List.{AllByRecursion}
+use Rattle.std.proofs.Common.{◌≡◌, ◌&&◌, Bool, true, false, List, [], ◌∷◌, map, Option, Some, None, refl, ap, sym, subst}
+use Rattle.std.proofs.lemmas.Bool.{false≢true}
+use Rattle.std.specs.List.{AllByRecursion, list_all}
 use Rattle.gb_core.specs.declared.ty.Ty.{Ty}
 use Rattle.gb_core.specs.declared.ty.Ty.TheVariants as ty
 use Rattle.gb_core.specs.declared.var.Var.{Var}
 use Rattle.gb_terms.specs.declared.decl.TypedName.{TypedName}
+use Rattle.gb_terms.specs.declared.module.Bind.{Bind}
 use Rattle.gb_terms.specs.declared.op.Op.TheVariants.{Implies}
 use Rattle.gb_terms.specs.declared.term.Term.{Term, Term', Row_of-Term, end_of-Term, more_of-Term, end_of-Head, more_of-Head, out-Term, items-the_row-Term}
 use Rattle.gb_terms.specs.declared.term.Head.{Head}
@@ -35,13 +37,14 @@ use Rattle.gb_typing.proofs.Shapes.{goal_form, node_out}
 use Rattle.gb_typing.proofs.TypedGoals.{conclusion_goal}
 use Rattle.gb_shapes.specs.declared.place.Enumeration.{Enumeration}
 use Rattle.gb_shapes.specs.Names.{Place}
+use Rattle.gb_print_names.specs.Names.{module_name}
 use Rattle.gb_print_names.specs.Occurring.{inside}
 use Rattle.gb_print_text.specs.Goals.{place_of_goal}
-use Rattle.gb_readback.specs.Written.{is_name_text, IsWrittenType}
-use Rattle.gb_readback.specs.Goals.{AreWrittenVariables, no_variables, one_variable, AreWrittenMemories, no_memories, one_memory, AreWrittenBinds, no_binds}
+use Rattle.gb_readback.specs.Written.{is_name_text, is_path, is_limit_here, is_bind_here, IsWrittenType}
+use Rattle.gb_readback.specs.Goals.{AreWrittenVariables, no_variables, one_variable, AreWrittenMemories, no_memories, one_memory, AreWrittenBinds, no_binds, one_bind}
 use Rattle.gb_spelt_laws.specs.Spelt.{IsSpeltHead, IsSpelt, AreSpelt, EachSpelt, IsSpeltInstr, AreSpeltInstrs, AreSpeltBodies, IsSpeltConclusion, AreSpeltHyps, IsSpeltGoal}
 use Rattle.gb_spelt_laws.specs.Spelt as s
-use Rattle.gb_spelt_laws.specs.Named.{IsNamed, AreNamed, IsNamedInstr, AreNamedInstrs, IsNamedGoal, IsNamedVariable, IsNamedHyp, IsNamedSequent}
+use Rattle.gb_spelt_laws.specs.Named.{IsNamed, AreNamed, IsNamedInstr, AreNamedInstrs, IsNamedGoal, IsNamedVariable, IsNamedHyp, IsNamedBind, IsNamedSequent}
 use Rattle.gb_spelt_laws.proofs.Types.{type_written}
 use Rattle.gb_spelt_laws.proofs.Spelling.{Fits, inside_fits, procedure_here, target_here, targets_here, all_targets_here, of_parts, form_spelt}
 use Rattle.gb_spelt_laws.proofs.Statements.{call_is, if_is, while_is, EachNamed}
@@ -189,6 +192,25 @@ memories_written : (ms : List Name) → AllByRecursion (λ m. is_name_text m ≡
 memories_written [] x = no_memories
 memories_written (m ∷ ms) x = one_memory x.0 (memories_written ms x.1)
 
+hold_both : (a b : Bool) → a ≡ true → b ≡ true → (a && b) ≡ true
+hold_both true b h k = k
+hold_both false b h k = absurd (false≢true h)
+
+excluded_written : (ms : List Name) → AllByRecursion (λ m. is_path m ≡ true) ms → list_all is_path (map (module_name []) ms) ≡ true
+excluded_written [] x = refl
+excluded_written (m ∷ ms) x = hold_both (is_path m) _ x.0 (excluded_written ms x.1)
+
+bind_written : (b : Bind) → IsNamedBind b → is_bind_here [] b ≡ true
+bind_written b n =
+    let excluded = excluded_written b.minus n.minus in
+    let unbounded = ap (λ ls. list_all (is_limit_here []) ls) n.bounds in
+    hold_both (is_path b.ty && list_all is_path (map (module_name []) b.minus)) (list_all (is_limit_here []) b.bounds)
+    (hold_both (is_path b.ty) (list_all is_path (map (module_name []) b.minus)) n.ty excluded) unbounded
+
+binds_written : (at : Place) → at.bound ≡ [] → (bs : List Bind) → AllByRecursion IsNamedBind bs → AreWrittenBinds at bs
+binds_written at e [] x = no_binds
+binds_written at e (b ∷ bs) x = let n = x.0 in one_bind n.name (subst (λ ks. is_bind_here ks b ≡ true) (sym e) (bind_written b n)) (binds_written at e bs x.1)
+
 -- Goals.
 
 pub sequent_spelt : (ds : Declarations) (ss : scope.Declarations) (es : List Enumeration) (q : Sequent) → IsTypedSequent (context_of ds) q → IsNamedSequent es q → IsSpeltGoal (place_of_goal ss es q) q
@@ -199,7 +221,7 @@ sequent_spelt ds ss es q w x =
     record {
       variables = variables_written at refl q.logical x.variables;
       memories = memories_written q.memories x.memories;
-      modules = subst (AreWrittenBinds at) (sym x.modules) no_binds;
+      modules = binds_written at refl q.modules x.modules;
       hyps = hyps_spelt es at fits c q.hyps w.hyps x.hyps;
       conclusion = conclusion_spelt es at fits c q.conclusion w.conclusion x.conclusion;
     }

@@ -102,12 +102,12 @@ module _ (es : List Enumeration) where
   goals_named l m =
       let value = before_named l m in
       let turn = and_named es l.guard _ m.guard (equal_named es l.variant _ m.variant value) in (
-        record { variables = tt; memories = tt; modules = refl; hyps = tt; conclusion = goal_named es (above_zero l) (above_named l m) },
+        record { variables = tt; memories = tt; modules = tt; hyps = tt; conclusion = goal_named es (above_zero l) (above_named l m) },
         (
           record {
             variables = ((primed_name 107 refl name_k (length (taken l)) (is_among (taken l)), variant_typed l m), tt);
             memories = tt;
-            modules = refl;
+            modules = tt;
             hyps = tt;
             conclusion = form_named es (hoare (body l.body) (turning l) (fallen l)) (m.body, turn, less_named l.variant _ m.variant value);
           },

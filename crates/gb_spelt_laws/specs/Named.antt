@@ -5,6 +5,7 @@ use Rattle.gb_core.specs.declared.ty.Ty.{Ty, Row_of-Ty, end_of-Ty, more_of-Ty}
 use Rattle.gb_core.specs.declared.ty.Ty.TheVariants as ty
 use Rattle.gb_core.specs.declared.value.Value.{out-Value}
 use Rattle.gb_terms.specs.declared.decl.TypedName.{TypedName}
+use Rattle.gb_terms.specs.declared.module.Bind.{Bind}
 use Rattle.gb_terms.specs.declared.op.Op.{Op}
 use Rattle.gb_terms.specs.declared.op.Op.TheVariants as op
 use Rattle.gb_terms.specs.declared.op.Read.TheVariants.{Program}
@@ -73,7 +74,7 @@ IsNamedOperator op.Times t = IsNamedType t
 IsNamedOperator op.Xor t = IsNamedType t
 IsNamedOperator _ t = Unit {0}
 
--- What a head of a form of this type names, and its numbers. No script binds a module yet.
+-- What a head of a form of this type names, and its numbers. No form of a script binds a module yet.
 abbrev pub IsNamedHead : List Enumeration → Head → Ty → Type 0
 IsNamedHead es (head.Lit v) t = IsNamedType t × IsWrittenLiteral es t v (out-Value v)
 IsNamedHead es (head.Weights ps) t = are_weights_here es (outcome t) ps ≡ true
@@ -133,10 +134,17 @@ IsNamedVariable v = (is_name_text v.name ≡ true) × IsNamedType v.ty
 abbrev pub IsNamedHyp : List Enumeration → Hyp → Type 0
 IsNamedHyp es h = (is_name_text h.name ≡ true) × IsNamed es h.form
 
--- A goal whose context binds no module: its names are names, and its numbers are in range.
+-- An abstract module without bounds, whose module type and whose excluded modules have names that are names too.
+pub record IsNamedBind (b : Bind) : Type 0 where
+  pub name : is_name_text b.name ≡ true
+  pub ty : is_path b.ty ≡ true
+  pub minus : AllByRecursion (λ m. is_path m ≡ true) b.minus
+  pub bounds : b.bounds ≡ []
+
+-- A goal whose names are names, those of the modules that its context binds too, and whose numbers are in range.
 pub record IsNamedSequent (es : List Enumeration) (q : Sequent) : Type 0 where
   pub variables : AllByRecursion IsNamedVariable q.logical
   pub memories : AllByRecursion (λ m. is_name_text m ≡ true) q.memories
-  pub modules : q.modules ≡ []
+  pub modules : AllByRecursion IsNamedBind q.modules
   pub hyps : AllByRecursion (IsNamedHyp es) q.hyps
   pub conclusion : IsNamedGoal es (goal_of q.conclusion)

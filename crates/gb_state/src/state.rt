@@ -1,12 +1,14 @@
 // What a script has built so far.
 
 ghost use Rattle.std.specs.Prelude.{◌≡◌, [], true, take, IfOk};
-ghost use Rattle.gb_state.specs.Opened.{is_undeclared};
+ghost use Rattle.gb_state.specs.Opened.{in_context, is_undeclared, modules_of};
 
+use gb_core::SharedItems;
 use gb_core::name::{Name, Names};
 use gb_goal::scope::{Binders, ProcName, Scope};
 use gb_goal::sequent::Sequent;
 use gb_steps::goals::Goals;
+use gb_terms::module::Bind;
 use sqlite_items::Items;
 use std::alloc::{AllocError, Global};
 
@@ -24,6 +26,16 @@ pub enum Claim {
 }
 
 impl Claim {
+    /// The abstract modules that are declared while the steps of the proof run: those that the lemma binds.
+    pub fn modules(&self) -> &[Bind]
+        ensures { result.now ≡ modules_of self.now }
+    {
+        match self {
+            Claim::Lemma { statement, .. } => statement.modules.as_slice(),
+            Claim::Loops(_) => &[],
+        }
+    }
+
     /// One owner more of all that the claim holds.
     pub fn share(&self, alloc: Global) -> Result<Claim, AllocError>
         ensures { IfOk result (λ claim. claim ≡ self.now) }
@@ -74,6 +86,16 @@ pub struct OpenProof {
     pub fresh: bool,
 }
 
+/// The modules that a lemma binds, or none.
+fn modules_shared(alloc: Global, claim: &Claim) -> Result<SharedItems<Bind>, AllocError>
+    ensures { IfOk result (λ made. made ≡ modules_of claim.now) }
+{
+    match claim {
+        Claim::Lemma { statement, .. } => statement.modules.share(),
+        Claim::Loops(_) => SharedItems::empty(alloc),
+    }
+}
+
 /// One owner more of each goal.
 fn shared(alloc: Global, goals: &Goals) -> Result<Goals, AllocError>
     ensures { IfOk result (λ made. made ≡ goals.now) }
@@ -91,6 +113,13 @@ fn shared(alloc: Global, goals: &Goals) -> Result<Goals, AllocError>
 }
 
 impl OpenProof {
+    /// A goal of the proof with the modules of its lemma in its context.
+    pub fn in_context(&self, alloc: Global, goal: &Sequent) -> Result<Sequent, AllocError>
+        ensures { IfOk result (λ made. made ≡ in_context self.now.claim goal.now) }
+    {
+        goal.with_modules(modules_shared(alloc, &self.claim)?)
+    }
+
     /// One owner more of all that the proof holds.
     pub fn share(&self, alloc: Global) -> Result<OpenProof, AllocError>
         ensures { IfOk result (λ proof. proof ≡ self.now) }

@@ -8,6 +8,7 @@ use Rattle.gb_core.specs.declared.refusal.Refused.{Refused}
 use Rattle.gb_core.specs.declared.refusal.Why.TheVariants.{Argument}
 use Rattle.gb_goal.specs.Answers.{Answer, ◌>>=◌, Fails, placed_at}
 use Rattle.gb_goal.specs.Answers.Answer.{given, refused}
+use Rattle.gb_goal.specs.Scope.{Declarations}
 use Rattle.gb_goal.specs.declared.sequent.Sequent.{Sequent}
 use Rattle.gb_script.specs.declared.head.Head.{Head}
 use Rattle.gb_script.specs.declared.head.Head.TheVariants as head
@@ -26,61 +27,61 @@ placed_behind : (place : Place) (a : Answer (List Sequent)) (k : List Sequent �
 placed_behind place (given x) k = refl
 placed_behind place (refused why at) k = refl
 
-module _ (f : Node → Stepping) where
-  firsts : (ts : List Node) → map (λ x. x.0) (with_works f ts) ≡ ts
+module _ (ds : Declarations) (f : Node → Stepping) where
+  firsts : (ts : List Node) → map (λ x. x.0) (with_works ds f ts) ≡ ts
   firsts [] = refl
   firsts (t ∷ ts) = ap (λ us. t ∷ us) (firsts ts)
 
-  whole : (t : Node) → node (head_of t) (text_of t) (map (λ x. x.0) (with_works f (parts_of t))) (place_of t) ≡ t
+  whole : (t : Node) → node (head_of t) (text_of t) (map (λ x. x.0) (with_works ds f (parts_of t))) (place_of t) ≡ t
   whole t = ap (λ ts. node (head_of t) (text_of t) ts (place_of t)) (firsts (parts_of t)) ∙ roll-out-Node t
 
-  works_is : (t : Node) → works f t ≡ patterned f (head_of t) t (inner f t)
+  works_is : (t : Node) → works ds f t ≡ patterned f (head_of t) t (inner ds f t)
   unfolding works
   works_is t =
-      said_is (λ h x ws p. patterned f h (node h x (map (λ w. w.0) ws) p) (worked f h ws p)) t
-      ∙ ap (λ u. patterned f (head_of t) u (inner f t)) (whole t)
+      said_is (λ h x ws p. patterned f h (node h x (map (λ w. w.0) ws) p) (worked ds f h ws p)) t
+      ∙ ap (λ u. patterned f (head_of t) u (inner ds f t)) (whole t)
 
   -- a pattern, and what is no pattern
-  pub pattern_is : (t : Node) → is_pattern (head_of t) ≡ true → works f t ≡ on_each (fits f t)
-  pattern_is t e = works_is t ∙ ap (λ (b : Bool). if b then on_each (fits f t) else inner f t) e
+  pub pattern_is : (t : Node) → is_pattern (head_of t) ≡ true → works ds f t ≡ on_each (fits ds f t)
+  pattern_is t e = works_is t ∙ ap (λ (b : Bool). if b then on_each (fits ds f t) else inner ds f t) e
 
-  pub no_pattern_is : (t : Node) → is_pattern (head_of t) ≡ false → works f t ≡ inner f t
-  no_pattern_is t e = works_is t ∙ ap (λ (b : Bool). if b then on_each (fits f t) else inner f t) e
+  pub no_pattern_is : (t : Node) → is_pattern (head_of t) ≡ false → works ds f t ≡ inner ds f t
+  no_pattern_is t e = works_is t ∙ ap (λ (b : Bool). if b then on_each (fits ds f t) else inner ds f t) e
 
-  each : (ts : List Node) → map (λ x. x.1) (with_works f ts) ≡ each_works f ts
+  each : (ts : List Node) → map (λ x. x.1) (with_works ds f ts) ≡ each_works ds f ts
   each [] = refl
-  each (t ∷ ts) = ap (λ ws. works f t ∷ ws) (each ts)
+  each (t ∷ ts) = ap (λ ws. works ds f t ∷ ws) (each ts)
 
   module _ (h : Head) (ts : List Node) (place : Place) where
-    pub tactic_is : (q : Sequent) → h ≡ head.Tactic → stepped_by f h (with_works f ts) place q ≡ in_turn (each_works f ts) (q ∷ [])
-    tactic_is q e = ap (λ k. stepped_by f k (with_works f ts) place q) e ∙ ap (λ ws. in_turn ws (q ∷ [])) (each ts)
+    pub tactic_is : (q : Sequent) → h ≡ head.Tactic → stepped_by ds f h (with_works ds f ts) place q ≡ in_turn (each_works ds f ts) (q ∷ [])
+    tactic_is q e = ap (λ k. stepped_by ds f k (with_works ds f ts) place q) e ∙ ap (λ ws. in_turn ws (q ∷ [])) (each ts)
 
     pub repeat_is : (q : Sequent) (n t : Node) → h ≡ head.Repeat → ts ≡ n ∷ t ∷ [] →
-        stepped_by f h (with_works f ts) place q ≡ times (number_of (text_of n)) (place_of n) (works f t) (q ∷ [])
-    repeat_is q n t e is = ap (λ k. stepped_by f k (with_works f ts) place q) e ∙ ap (λ us. stepped_by f head.Repeat (with_works f us) place q) is
+        stepped_by ds f h (with_works ds f ts) place q ≡ times (number_of (text_of n)) (place_of n) (works ds f t) (q ∷ [])
+    repeat_is q n t e is = ap (λ k. stepped_by ds f k (with_works ds f ts) place q) e ∙ ap (λ us. stepped_by ds f head.Repeat (with_works ds f us) place q) is
 
     -- a step that `done` closes
     pub by_is : (q : Sequent) (t : Node) → h ≡ head.By → ts ≡ t ∷ [] →
-        stepped_by f h (with_works f ts) place q ≡ (works f t (q ∷ []) >>= on_each (f (done_at place)))
-    by_is q t e is = ap (λ k. stepped_by f k (with_works f ts) place q) e ∙ ap (λ us. stepped_by f head.By (with_works f us) place q) is
+        stepped_by ds f h (with_works ds f ts) place q ≡ (works ds f t (q ∷ []) >>= on_each (f (done_at place)))
+    by_is q t e is = ap (λ k. stepped_by ds f k (with_works ds f ts) place q) e ∙ ap (λ us. stepped_by ds f head.By (with_works ds f us) place q) is
 
-    pub both_is : (q : Sequent) → h ≡ head.BothPatterns → stepped_by f h (with_works f ts) place q ≡ in_turn (each_works f ts) (q ∷ [])
-    both_is q e = ap (λ k. stepped_by f k (with_works f ts) place q) e ∙ ap (λ ws. in_turn ws (q ∷ [])) (each ts)
+    pub both_is : (q : Sequent) → h ≡ head.BothPatterns → stepped_by ds f h (with_works ds f ts) place q ≡ in_turn (each_works ds f ts) (q ∷ [])
+    both_is q e = ap (λ k. stepped_by ds f k (with_works ds f ts) place q) e ∙ ap (λ ws. in_turn ws (q ∷ [])) (each ts)
 
     -- a rule, and then the patterns behind it, each with its refusals at the rule
     pub rule_is : (q : Sequent) (r i : Node) → ts ≡ r ∷ i ∷ [] →
-        stepped_by f head.Rule (with_works f ts) place q ≡ (placed_at place (ruled f (head_of r) (r, works f r) q) >>= λ qs. placed_at place (works f i qs))
+        stepped_by ds f head.Rule (with_works ds f ts) place q ≡ (placed_at place (ruled f (head_of r) (r, works ds f r) q) >>= λ qs. placed_at place (works ds f i qs))
     rule_is q r i is =
-        ap (λ us. stepped_by f head.Rule (with_works f us) place q) is ∙ placed_behind place (ruled f (head_of r) (r, works f r) q) (works f i)
+        ap (λ us. stepped_by ds f head.Rule (with_works ds f us) place q) is ∙ placed_behind place (ruled f (head_of r) (r, works ds f r) q) (works ds f i)
 
-    pub either_is : (qs : List Sequent) → h ≡ head.EitherPattern → worked f h (with_works f ts) place qs ≡ spread (each_works f ts) place qs
-    either_is qs e = ap (λ k. worked f k (with_works f ts) place qs) e ∙ ap (λ ws. spread ws place qs) (each ts)
+    pub either_is : (qs : List Sequent) → h ≡ head.EitherPattern → worked ds f h (with_works ds f ts) place qs ≡ spread (each_works ds f ts) place qs
+    either_is qs e = ap (λ k. worked ds f k (with_works ds f ts) place qs) e ∙ ap (λ ws. spread ws place qs) (each ts)
 
-    pub branches_is : (qs : List Sequent) → h ≡ head.Branches → worked f h (with_works f ts) place qs ≡ spread (each_works f ts) place qs
-    branches_is qs e = ap (λ k. worked f k (with_works f ts) place qs) e ∙ ap (λ ws. spread ws place qs) (each ts)
+    pub branches_is : (qs : List Sequent) → h ≡ head.Branches → worked ds f h (with_works ds f ts) place qs ≡ spread (each_works ds f ts) place qs
+    branches_is qs e = ap (λ k. worked ds f k (with_works ds f ts) place qs) e ∙ ap (λ ws. spread ws place qs) (each ts)
 
   pub step_is : (h : Head) (ws : List (Node × Working)) (place : Place) (qs : List Sequent) → (h ≡ head.Next → ⊥) → (h ≡ head.EitherPattern → ⊥) → (h ≡ head.Branches → ⊥) →
-      worked f h ws place qs ≡ on_each (stepped_by f h ws place) qs
+      worked ds f h ws place qs ≡ on_each (stepped_by ds f h ws place) qs
   step_is head.Next ws place qs n e b = absurd (n refl)
   step_is head.EitherPattern ws place qs n e b = absurd (e refl)
   step_is head.Branches ws place qs n e b = absurd (b refl)
@@ -92,16 +93,16 @@ module _ (f : Node → Stepping) where
 
   -- patterns whose names are new
   module _ (ts : List Node) (q : Sequent) where
-    named : introduced (with_works f ts) q ≡ (all_new q ts >>= λ _. in_turn (each_works f ts) (q ∷ []))
+    named : introduced ds (with_works ds f ts) q ≡ (all_new ds q ts >>= λ _. in_turn (each_works ds f ts) (q ∷ []))
     named =
-        ap (λ us. all_new q us >>= λ (_ : Unit {0}). in_turn (map (λ x. x.1) (with_works f ts)) (q ∷ [])) (firsts ts)
-        ∙ ap (λ ws. all_new q ts >>= λ (_ : Unit {0}). in_turn ws (q ∷ [])) (each ts)
+        ap (λ us. all_new ds q us >>= λ (_ : Unit {0}). in_turn (map (λ x. x.1) (with_works ds f ts)) (q ∷ [])) (firsts ts)
+        ∙ ap (λ ws. all_new ds q ts >>= λ (_ : Unit {0}). in_turn ws (q ∷ [])) (each ts)
 
-    pub introduced_is : all_new q ts ≡ given tt → introduced (with_works f ts) q ≡ in_turn (each_works f ts) (q ∷ [])
-    introduced_is e = named ∙ leads_on (all_new q ts) (λ (_ : Unit {0}). in_turn (each_works f ts) (q ∷ [])) tt e
+    pub introduced_is : all_new ds q ts ≡ given tt → introduced ds (with_works ds f ts) q ≡ in_turn (each_works ds f ts) (q ∷ [])
+    introduced_is e = named ∙ leads_on (all_new ds q ts) (λ (_ : Unit {0}). in_turn (each_works ds f ts) (q ∷ [])) tt e
 
-    pub introduced_fails : (e : Refused) → Fails (all_new q ts) e → Fails (introduced (with_works f ts) q) e
-    introduced_fails e h = fails_as _ _ e named (passes (all_new q ts) (λ (_ : Unit {0}). in_turn (each_works f ts) (q ∷ [])) e h)
+    pub introduced_fails : (e : Refused) → Fails (all_new ds q ts) e → Fails (introduced ds (with_works ds f ts) q) e
+    introduced_fails e h = fails_as _ _ e named (passes (all_new ds q ts) (λ (_ : Unit {0}). in_turn (each_works ds f ts) (q ∷ [])) e h)
 
 -- the next goal
 module _ (g : Stepping) (goals : List Sequent) (i : ℕ) (q : Sequent) (ls : List Sequent) (here : drop i goals ≡ q ∷ drop (i + 1) goals) where
@@ -119,35 +120,35 @@ abbrev pub one_each : List Working → List Sequent → List (Answer (List Seque
 one_each ws qs = map (λ x. x.0 (x.1 ∷ [])) (zip ws qs)
 
 -- the next goal, with the next tactic
-module _ (f : Node → Stepping) (ts : List Node) (goals : List Sequent) (i : ℕ) (t : Node) (q : Sequent) (ls : List Sequent)
+module _ (ds : Declarations) (f : Node → Stepping) (ts : List Node) (goals : List Sequent) (i : ℕ) (t : Node) (q : Sequent) (ls : List Sequent)
     (tactic : drop i ts ≡ t ∷ drop (i + 1) ts) (here : drop i goals ≡ q ∷ drop (i + 1) goals) where
-  next_pair : gathered_behind ls (one_each (each_works f (drop i ts)) (drop i goals))
-      ≡ gathered_behind ls (works f t (q ∷ []) ∷ one_each (each_works f (drop (i + 1) ts)) (drop (i + 1) goals))
+  next_pair : gathered_behind ls (one_each (each_works ds f (drop i ts)) (drop i goals))
+      ≡ gathered_behind ls (works ds f t (q ∷ []) ∷ one_each (each_works ds f (drop (i + 1) ts)) (drop (i + 1) goals))
   next_pair =
-      ap (λ us. gathered_behind ls (one_each (each_works f us) (drop i goals))) tactic
-      ∙ ap (λ qs. gathered_behind ls (one_each (each_works f (t ∷ drop (i + 1) ts)) qs)) here
+      ap (λ us. gathered_behind ls (one_each (each_works ds f us) (drop i goals))) tactic
+      ∙ ap (λ qs. gathered_behind ls (one_each (each_works ds f (t ∷ drop (i + 1) ts)) qs)) here
 
   abbrev after : List Sequent → Answer (List Sequent)
-  after xs = gathered_behind (ls ++ xs) (one_each (each_works f (drop (i + 1) ts)) (drop (i + 1) goals))
+  after xs = gathered_behind (ls ++ xs) (one_each (each_works ds f (drop (i + 1) ts)) (drop (i + 1) goals))
 
-  pub pair_given : (more : List Sequent) → works f t (q ∷ []) ≡ given more →
-      gathered_behind ls (one_each (each_works f (drop i ts)) (drop i goals)) ≡ after more
-  pair_given more e = next_pair ∙ leads_on (works f t (q ∷ [])) after more e
+  pub pair_given : (more : List Sequent) → works ds f t (q ∷ []) ≡ given more →
+      gathered_behind ls (one_each (each_works ds f (drop i ts)) (drop i goals)) ≡ after more
+  pair_given more e = next_pair ∙ leads_on (works ds f t (q ∷ [])) after more e
 
-  pub pair_fails : (e : Refused) → Fails (works f t (q ∷ [])) e → Fails (gathered_behind ls (one_each (each_works f (drop i ts)) (drop i goals))) e
-  pair_fails e h = fails_as _ _ e next_pair (passes (works f t (q ∷ [])) after e h)
+  pub pair_fails : (e : Refused) → Fails (works ds f t (q ∷ [])) e → Fails (gathered_behind ls (one_each (each_works ds f (drop i ts)) (drop i goals))) e
+  pair_fails e h = fails_as _ _ e next_pair (passes (works ds f t (q ∷ [])) after e h)
 
 -- as many tactics as goals
-pub spread_is : (f : Node → Stepping) (ts : List Node) (place : Place) (qs : List Sequent) → length ts ≡ length qs →
-    spread (each_works f ts) place qs ≡ gathered_behind [] (one_each (each_works f ts) qs)
-spread_is f ts place qs e =
-    let same : (length (each_works f ts) == length qs) ≡ true = eq-eqb (length (each_works f ts)) (length qs) (length-map ts (works f) ∙ e) in
-    ap (λ (b : Bool). if b then gathered_behind [] (one_each (each_works f ts) qs) else refused Argument place) same
+pub spread_is : (ds : Declarations) (f : Node → Stepping) (ts : List Node) (place : Place) (qs : List Sequent) → length ts ≡ length qs →
+    spread (each_works ds f ts) place qs ≡ gathered_behind [] (one_each (each_works ds f ts) qs)
+spread_is ds f ts place qs e =
+    let same : (length (each_works ds f ts) == length qs) ≡ true = eq-eqb (length (each_works ds f ts)) (length qs) (length-map ts (works ds f) ∙ e) in
+    ap (λ (b : Bool). if b then gathered_behind [] (one_each (each_works ds f ts) qs) else refused Argument place) same
 
 -- no tactic is left
-pub spread_ends : (f : Node → Stepping) (ts : List Node) (i : ℕ) (ls qs : List Sequent) → length ts ≤ i →
-    gathered_behind ls (one_each (each_works f (drop i ts)) qs) ≡ given ls
-spread_ends f ts i ls qs h = ap (λ us. gathered_behind ls (one_each (each_works f us) qs)) (drop_all i ts h)
+pub spread_ends : (ds : Declarations) (f : Node → Stepping) (ts : List Node) (i : ℕ) (ls qs : List Sequent) → length ts ≤ i →
+    gathered_behind ls (one_each (each_works ds f (drop i ts)) qs) ≡ given ls
+spread_ends ds f ts i ls qs h = ap (λ us. gathered_behind ls (one_each (each_works ds f us) qs)) (drop_all i ts h)
 
 -- the next round
 module _ (w : Working) (n c : ℕ) (less : c < n) (qs : List Sequent) where

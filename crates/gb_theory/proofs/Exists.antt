@@ -39,7 +39,7 @@ use Rattle.gb_use.specs.Uses as uses
 use Rattle.gb_call_known.proofs.Answered as known_calls
 use Rattle.gb_sim.proofs.Answered as same_statements
 use Rattle.gb_rewrite.specs.Rewriting.{rewrite_answer}
-use Rattle.gb_theory.specs.Built.{Session, OpenProof, fresh_session}
+use Rattle.gb_theory.specs.Built.{Session, OpenProof, fresh_session, seen_in}
 use Rattle.gb_theory.specs.Commands.{After, requires_files, assumes, brings, declares, opens, opens_loops, begun, ended, closed_unless, row_of, Applied, allowed, entered, OnBoth, RuleAnswers, AreRules, continued, WorksOn, InProof, Proves, ComesToOf, ComesTo, transformed}
 use Rattle.gb_theory.specs.Combinators.{Stepping, works}
 use Rattle.gb_theory.specs.Outcome.{IsReadAs, IsEnd, Ends, Goes, RunsIn, start, IsOutcome}
@@ -97,7 +97,8 @@ module _
   worked_on : (qs : List Sequent) (s : Session) (p : OpenProof) (tree : Node) (place : Place) → Some_of (WorksOn qs s p tree place)
   worked_on [] s p tree place = (refused NoGoal place, refl)
   worked_on (q ∷ rest) s p tree place =
-      (works (rules s.scope) tree (q ∷ []) >>= continued s p rest place, (rules s.scope, (λ t q. (rule_answers s.scope t q).1), refl))
+      let ds : Declarations = seen_in s.scope p.claim in
+      (works ds (rules ds) tree (q ∷ []) >>= continued s p rest place, (rules ds, (λ t q. (rule_answers ds t q).1), refl))
 
   proved : (s : Session) (tree : Node) (place : Place) → Some_of (Proves s tree place)
   proved s tree place = in_proof s.proof place (λ p. WorksOn p.goals s p tree place) (λ p. worked_on p.goals s p tree place)

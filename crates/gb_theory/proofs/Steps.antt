@@ -40,7 +40,7 @@ use Rattle.gb_use.specs.Uses as uses
 use Rattle.gb_call_known.specs.Known as known_calls
 use Rattle.gb_sim.specs.Sim as same_statements
 use Rattle.gb_rewrite.specs.Rewriting.{rewrite_answer}
-use Rattle.gb_theory.specs.Built.{Session, OpenProof, with_goals}
+use Rattle.gb_theory.specs.Built.{Session, OpenProof, with_goals, seen_in}
 use Rattle.gb_theory.specs.Combinators.{Stepping, works}
 use Rattle.gb_theory.specs.Commands.{After, allowed, entered, Applied, AreRules, OnBoth, RuleAnswers, continued, on_guard, transformed, WorksOn}
 use Rattle.gb_theory.specs.Sessions.{Meets, IsDue}
@@ -137,7 +137,7 @@ guard_answers ds r a n t place q result is all h =
     (subst (λ r. Answers (stepped (transformations.rule_row ds r) place q) result) (is ∙ ap (λ a. rule.Transform a (transformation.Decided n t)) all) h)
 
 pub beside_answers : (ds : Declarations) (a : Acts) (n : ℕ) (t : Bool) (place : Place) (q : Sequent) (result : Result (List Sequent) Refused)
-    → (a ≡ acts.All → ⊥) → Answers (beside_answer n t a place q) result → Answers (on_guard ds a n t place q) result
+    → (a ≡ acts.All → ⊥) → Answers (beside_answer ds n t a place q) result → Answers (on_guard ds a n t place q) result
 beside_answers ds acts.All n t place q result other h = absurd (other refl)
 beside_answers ds acts.Left n t place q result other h = h
 beside_answers ds acts.Right n t place q result other h = h
@@ -203,19 +203,21 @@ first_and_rest : (goals : List Sequent) (q : Sequent) → slice_get goals 0 ≡ 
 first_and_rest [] q e = absurd (cc)
 first_and_rest (g ∷ gs) q e = cc
 
--- what becomes of the first goal and the others, in each session of this scope
+-- what becomes of the first goal and the others, in each proof whose steps see these declarations
 module _ (ds : Declarations) (goals : List Sequent) (q : Sequent) (t : Node) (place : Place) (first : slice_get goals 0 ≡ Some q) (f : Node → Stepping) (rules : AreRules ds f) where
-  pub next_meets : (qs : List Sequent) (r : Result (List Sequent) Refused) → works f t (q ∷ []) ≡ given qs
+  pub next_meets : (qs : List Sequent) (r : Result (List Sequent) Refused) → works ds f t (q ∷ []) ≡ given qs
       → ((s : Session) (p : OpenProof) → Gives (goes_on s p (drop 1 goals)) (continued s p (drop 1 goals) place qs) r)
-      → (s : Session) (p : OpenProof) → s.scope ≡ ds → Meets (goes_on s p (drop 1 goals)) (WorksOn goals s p t place) r
+      → (s : Session) (p : OpenProof) → seen_in s.scope p.claim ≡ ds → Meets (goes_on s p (drop 1 goals)) (WorksOn goals s p t place) r
   next_meets qs r worked h s p is =
+      let seen = subst (λ d. works d f t (q ∷ []) ≡ given qs) (sym is) worked in
       subst (λ (gs : List Sequent). Meets (goes_on s p (drop 1 goals)) (WorksOn gs s p t place) r) (sym (first_and_rest goals q first))
       (gives_meets (goes_on s p (drop 1 goals)) (WorksOn (q ∷ drop 1 goals) s p t place) (continued s p (drop 1 goals) place qs) r (h s p)
-      (λ x e. (f, subst (λ d. AreRules d f) (sym is) rules, e ∙ sym (ap (λ (a : Answer (List Sequent)). a >>= continued s p (drop 1 goals) place) worked))))
+      (λ x e. (f, subst (λ d. AreRules d f) (sym is) rules, e ∙ sym (ap (λ (a : Answer (List Sequent)). a >>= continued s p (drop 1 goals) place) seen))))
 
-  pub next_fails : (e : Refused) → Fails (works f t (q ∷ [])) e → (s : Session) (p : OpenProof) → s.scope ≡ ds → IsDue (WorksOn goals s p t place) e
+  pub next_fails : (e : Refused) → Fails (works ds f t (q ∷ [])) e → (s : Session) (p : OpenProof) → seen_in s.scope p.claim ≡ ds → IsDue (WorksOn goals s p t place) e
   next_fails NoMemory h s p is = tt
   next_fails ReadFault h s p is = h
   next_fails (Script why at) h s p is =
+      let seen = subst (λ d. Fails (works d f t (q ∷ [])) (Script why at)) (sym is) h in
       subst (λ (gs : List Sequent). WorksOn gs s p t place (refused why at)) (sym (first_and_rest goals q first))
-      (f, subst (λ d. AreRules d f) (sym is) rules, sym (ap (λ (a : Answer (List Sequent)). a >>= continued s p (drop 1 goals) place) h))
+      (f, subst (λ d. AreRules d f) (sym is) rules, sym (ap (λ (a : Answer (List Sequent)). a >>= continued s p (drop 1 goals) place) seen))

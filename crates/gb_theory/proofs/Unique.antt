@@ -38,7 +38,7 @@ use Rattle.gb_amb.specs.Steps.{IsAnswer}
 use Rattle.gb_use.specs.Uses as uses
 use Rattle.gb_call_known.proofs.Answered as known_calls
 use Rattle.gb_sim.proofs.Answered as same_statements
-use Rattle.gb_theory.specs.Built.{Session, OpenProof, fresh_session}
+use Rattle.gb_theory.specs.Built.{Session, OpenProof, fresh_session, seen_in}
 use Rattle.gb_theory.specs.Commands.{After, closed_unless, Applied, OnBoth, allowed, RuleAnswers, AreRules, continued, WorksOn, InProof, Proves, ComesToOf, ComesTo}
 use Rattle.gb_theory.specs.Combinators.{Stepping, works}
 use Rattle.std.proofs.Math.Path.{fun_ext}
@@ -98,7 +98,7 @@ module _
   one_on : (qs : List Sequent) (s : Session) (p : OpenProof) (tree : Node) (place : Place) (r t : Answer Session) → WorksOn qs s p tree place r → WorksOn qs s p tree place t → r ≡ t
   one_on [] s p tree place r t h k = h ∙ sym k
   one_on (q ∷ rest) s p tree place r t h k =
-      h.2 ∙ (ap (λ (f : Node → Stepping). works f tree (q ∷ []) >>= continued s p rest place) (one_way s.scope h.0 k.0 h.1 k.1) ∙ sym k.2)
+      h.2 ∙ (ap (λ (f : Node → Stepping). works (seen_in s.scope p.claim) f tree (q ∷ []) >>= continued s p rest place) (one_way (seen_in s.scope p.claim) h.0 k.0 h.1 k.1) ∙ sym k.2)
 
   one_proved : (s : Session) (tree : Node) (place : Place) (r t : Answer Session) → Proves s tree place r → Proves s tree place t → r ≡ t
   one_proved s tree place r t h k = in_proof_same s.proof place _ (λ p x y. one_on p.goals s p tree place x y) r t h k

@@ -1,6 +1,7 @@
 -- What the commands of a script build.
 use Rattle.std.specs.Prelude.{ℕ, Bool, true, false, if◌then◌else◌, is_some, List, [], ◌∷◌, ◌++◌, Option, Some, None}
 use Rattle.gb_terms.specs.declared.decl.Module.{Module}
+use Rattle.gb_goal.specs.Binders.{binder_entries, with_declared_modules}
 use Rattle.gb_goal.specs.Scope.{Declarations, entry_of, path_of}
 use Rattle.gb_goal.specs.declared.scope.Binder.{Binder}
 use Rattle.gb_goal.specs.declared.scope.Entry.TheVariants as entry
@@ -8,6 +9,7 @@ use Rattle.gb_goal.specs.declared.scope.ProcName.{ProcName}
 use Rattle.gb_goal.specs.declared.sequent.Sequent.{Sequent}
 use Rattle.gb_state.specs.declared.state.Claim.{Claim}
 use Rattle.gb_state.specs.declared.state.Claim.TheVariants as claim
+use Rattle.gb_state.specs.Opened.{modules_of}
 
 -- An open proof: what is claimed, a lemma or that the loops of a procedure end, the goals that are left, the first one first, and whether the word `proof` may still follow.
 pub record OpenProof : Type 0 where
@@ -37,9 +39,13 @@ with_module s m = record s { scope = s.scope ++ (m.name, entry.Module m) ∷ [] 
 abbrev pub with_claim : Session → Claim → List Sequent → Session
 with_claim s c qs = record s { proof = Some (record { claim = c; goals = qs; fresh = true }) }
 
--- the proof of a lemma is open, with its statement as the one goal
+-- the proof of a lemma is open, with its statement as the one goal; the modules that it binds are declared while steps run
 abbrev pub with_lemma : Session → List ℕ → Sequent → List Binder → Session
-with_lemma s name q bs = with_claim s (claim.Lemma name q bs) (q ∷ [])
+with_lemma s name q bs = with_claim s (claim.Lemma name q bs) (with_declared_modules q ∷ [])
+
+-- the declarations that the steps of a proof see
+abbrev pub seen_in : Declarations → Claim → Declarations
+seen_in ds c = ds ++ binder_entries (modules_of c)
 
 -- the proof goes on with these goals
 abbrev pub with_goals : Session → OpenProof → List Sequent → Session

@@ -6,6 +6,7 @@ use Rattle.gb_core.specs.declared.place.Place.{Place}
 use Rattle.gb_core.specs.declared.refusal.Why.TheVariants.{Argument}
 use Rattle.gb_goal.specs.Answers.{Answer, ◌>>=◌, not_built, nowhere, placed_at}
 use Rattle.gb_goal.specs.Answers.Answer.{given, refused}
+use Rattle.gb_goal.specs.Scope.{Declarations}
 use Rattle.gb_goal.specs.declared.sequent.Sequent.{Sequent}
 use Rattle.gb_script.specs.declared.head.Head.{Head}
 use Rattle.gb_script.specs.declared.head.Head.TheVariants as head
@@ -75,9 +76,9 @@ abbrev pub patterned : (Node → Stepping) → Head → Node → Working → Wor
 patterned f h t w = if is_pattern h then on_each (λ q. fitted h (f t q) >>= inside h w) else w
 
 -- patterns on a goal, once all their names are new
-abbrev pub introduced : List (Node × Working) → Stepping
-introduced ws q = do
-  _ ← all_new q (map (λ x. x.0) ws)
+abbrev pub introduced : Declarations → List (Node × Working) → Stepping
+introduced ds ws q = do
+  _ ← all_new ds q (map (λ x. x.0) ws)
   in_turn (map (λ x. x.1) ws) (q ∷ [])
 
 -- a rule; `move` has none but its patterns
@@ -91,26 +92,26 @@ done_at place = node head.PlainStep (codes "done") [] place
 
 -- What a step of this head, these parts and this place makes of a goal, where it is known what its rules make of goals, and its
 -- parts. A leading sign is passed over.
-abbrev pub stepped_by : (Node → Stepping) → Head → List (Node × Working) → Place → Stepping
-stepped_by f head.Tactic ws place q = in_turn (map (λ x. x.1) ws) (q ∷ [])
-stepped_by f head.BothPatterns ws place q = in_turn (map (λ x. x.1) ws) (q ∷ [])
-stepped_by f head.Group (w ∷ []) place q = w.1 (q ∷ [])
-stepped_by f head.Try (w ∷ []) place q = or_left (w.1 (q ∷ [])) q
-stepped_by f head.Repeat (n ∷ w ∷ []) place q = times (number_of (text_of n.0)) (place_of n.0) w.1 (q ∷ [])
-stepped_by f head.By (w ∷ []) place q = w.1 (q ∷ []) >>= on_each (f (done_at place))
-stepped_by f head.Rule (r ∷ i ∷ []) place q = placed_at place (ruled f (head_of r.0) r q >>= i.1)
-stepped_by f head.NoIntroduction ws place q = given (q ∷ [])
-stepped_by f head.Introduction ws place q = introduced ws q
-stepped_by f head.Move ws place q = introduced ws q
-stepped_by f h ws place q = not_built place
+abbrev pub stepped_by : Declarations → (Node → Stepping) → Head → List (Node × Working) → Place → Stepping
+stepped_by ds f head.Tactic ws place q = in_turn (map (λ x. x.1) ws) (q ∷ [])
+stepped_by ds f head.BothPatterns ws place q = in_turn (map (λ x. x.1) ws) (q ∷ [])
+stepped_by ds f head.Group (w ∷ []) place q = w.1 (q ∷ [])
+stepped_by ds f head.Try (w ∷ []) place q = or_left (w.1 (q ∷ [])) q
+stepped_by ds f head.Repeat (n ∷ w ∷ []) place q = times (number_of (text_of n.0)) (place_of n.0) w.1 (q ∷ [])
+stepped_by ds f head.By (w ∷ []) place q = w.1 (q ∷ []) >>= on_each (f (done_at place))
+stepped_by ds f head.Rule (r ∷ i ∷ []) place q = placed_at place (ruled f (head_of r.0) r q >>= i.1)
+stepped_by ds f head.NoIntroduction ws place q = given (q ∷ [])
+stepped_by ds f head.Introduction ws place q = introduced ds ws q
+stepped_by ds f head.Move ws place q = introduced ds ws q
+stepped_by ds f h ws place q = not_built place
 
 -- what a step, what stands behind a `;`, or what stands inside a pattern makes of goals
-abbrev pub worked : (Node → Stepping) → Head → List (Node × Working) → Place → Working
-worked f head.Next (w ∷ []) place = w.1
-worked f head.EitherPattern ws place = spread (map (λ x. x.1) ws) place
-worked f head.Branches ws place = spread (map (λ x. x.1) ws) place
-worked f h ws place = on_each (stepped_by f h ws place)
+abbrev pub worked : Declarations → (Node → Stepping) → Head → List (Node × Working) → Place → Working
+worked ds f head.Next (w ∷ []) place = w.1
+worked ds f head.EitherPattern ws place = spread (map (λ x. x.1) ws) place
+worked ds f head.Branches ws place = spread (map (λ x. x.1) ws) place
+worked ds f h ws place = on_each (stepped_by ds f h ws place)
 
 -- the same of a node, by its rules alone
-unfoldable pub works : (Node → Stepping) → Node → Working
-works f = para-Node Working (λ l. patterned f l.head (node l.head l.text (map (λ x. x.0) l.parts) l.place) (worked f l.head l.parts l.place))
+unfoldable pub works : Declarations → (Node → Stepping) → Node → Working
+works ds f = para-Node Working (λ l. patterned f l.head (node l.head l.text (map (λ x. x.0) l.parts) l.place) (worked ds f l.head l.parts l.place))

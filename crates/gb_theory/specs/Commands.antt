@@ -48,7 +48,7 @@ use Rattle.gb_rewrite.specs.Rewriting.{rewrite_answer}
 use Rattle.gb_theory.specs.Limits.{declaration_limit, each_limit, all_limit}
 use Rattle.gb_theory.specs.Combinators.{Stepping, works}
 use Rattle.gb_state.specs.declared.state.Claim.TheVariants as claim
-use Rattle.gb_theory.specs.Built.{Session, OpenProof, with_entries, with_module, with_lemma, with_goals, with_proved}
+use Rattle.gb_theory.specs.Built.{Session, OpenProof, with_entries, with_module, with_lemma, with_goals, with_proved, seen_in}
 use Rattle.gb_variants.specs.Operand.{operand}
 use Rattle.gb_variants.specs.Variants.{goals_of}
 
@@ -190,7 +190,7 @@ OnBoth ds r place q x = x ≡ stepped (row_of ds (rule.Relational r)) place q
 -- what a rule on a guard gives: on one of two programs it has a goal in a wider context
 abbrev pub on_guard : Declarations → Acts → ℕ → Bool → Place → Sequent → Answer (List Sequent)
 on_guard ds acts.All n t place q = stepped (row_of ds (rule.Transform acts.All (transformation.Decided n t))) place q
-on_guard ds a n t place q = beside_answer n t a place q
+on_guard ds a n t place q = beside_answer ds n t a place q
 
 -- what a rule that puts other statements into a program gives
 abbrev pub transformed : Declarations → Acts → Transformation → Place → Sequent → Answer (List Sequent)
@@ -229,7 +229,8 @@ continued s p rest place qs = do
 -- a tactic works on the first goal
 abbrev pub WorksOn : List Sequent → Session → OpenProof → Node → Place → Answer Session → Type 0
 WorksOn [] s p t place r = r ≡ refused NoGoal place
-WorksOn (q ∷ rest) s p t place r = (f : Node → Stepping) × AreRules s.scope f × (r ≡ (works f t (q ∷ []) >>= continued s p rest place))
+WorksOn (q ∷ rest) s p t place r =
+    (f : Node → Stepping) × AreRules (seen_in s.scope p.claim) f × (r ≡ (works (seen_in s.scope p.claim) f t (q ∷ []) >>= continued s p rest place))
 
 -- an open proof is asked for
 abbrev pub InProof : Option OpenProof → Place → (OpenProof → Answer Session → Type 0) → Answer Session → Type 0

@@ -1,11 +1,15 @@
 // One command of a script.
 
-ghost use Rattle.std.specs.Prelude.{◌≡◌, [], ◌∷◌, ◌++◌, drop, true, false, Some, None, IfOk, OnOk};
+ghost use Rattle.std.specs.Prelude.{◌≡◌, [], ◌∷◌, ◌++◌, drop, true, false, Some, None, Err, IfOk, OnOk};
+ghost use Rattle.gb_core.specs.declared.place.Place.{Place as ScriptPlace};
+ghost use Rattle.gb_core.specs.declared.refusal.Refused.TheVariants.{Script};
+ghost use Rattle.gb_core.specs.declared.refusal.Why.{Why as ScriptWhy};
 ghost use Rattle.std.specs.Option.{option_copied};
 ghost use Rattle.gb_script.specs.Tree.{head_of, parts_of, place_of};
 ghost use Rattle.gb_goal.specs.Answers.{Answers, Gives};
+ghost use Rattle.gb_goal.specs.Binders.{with_declared_modules};
 ghost use Rattle.gb_elab_mod.specs.Lemmas.{lemma_name};
-ghost use Rattle.gb_theory.specs.Built.{Session, OpenProof as Opened, lemmas_with, scope_with, with_ended, with_goals};
+ghost use Rattle.gb_theory.specs.Built.{Session, OpenProof as Opened, lemmas_with, scope_with, seen_in, with_ended, with_goals};
 ghost use Rattle.gb_theory.specs.Commands.{all_allowed, assumes, brings, declares, is_built_in, loops_opened, opens, opens_loops, requires_files, begun, ended, continued, InProof, Proves, WorksOn, ComesToOf, ComesTo};
 ghost use Rattle.gb_state.specs.Opened.{is_new, is_undeclared};
 ghost use Rattle.gb_theory.specs.Placed.{placed};
@@ -15,9 +19,11 @@ ghost use Rattle.gb_theory.specs.Sessions.{open_of, session_of, Meets, Leads, Is
 use crate::limits::{check_all, check_declarations, check_each, check_goal};
 use crate::outcome_laws::rules_have_answers;
 use crate::tactics::work_on_one;
+use gb_core::SharedItems;
 use gb_core::name::{Name, Names};
 use gb_core::place::Place;
 use gb_core::refusal::{Refused, Why};
+use gb_goal::binders::binder_entries;
 use gb_goal::scope::{Binders, ProcName, Scope};
 use gb_goal::sequent::{Sequent, Sequents};
 use gb_script::head::Head;
@@ -195,7 +201,7 @@ fn open_lemma(
     if state.proof.is_some() {
         return Err(refused(Why::NoGoal, place));
     }
-    let statement = gb_elab_mod::lemma::statement(alloc, &state.scope, tree)?;
+    let statement = gb_elab_mod::lemma::statement(alloc, &mut state.scope, tree)?;
     check_declarations(&state.scope, place)?;
     check_goal(&statement, place)?;
     let binders = gb_elab_mod::binders::binders(alloc, tree)?;
@@ -211,7 +217,7 @@ fn opened(
     statement: Sequent,
     binders: Binders,
 ) -> Result<OpenProof, AllocError>
-    ensures { IfOk result (λ p. p ≡ record { claim = Claim.Lemma name.now statement binders; goals = statement ∷ []; fresh = true }) }
+    ensures { IfOk result (λ p. p ≡ record { claim = Claim.Lemma name.now statement binders; goals = with_declared_modules statement ∷ []; fresh = true }) }
 {
     let goals = one_goal(alloc, &statement)?;
     let name = name.copy(alloc)?;
@@ -227,11 +233,13 @@ fn opened(
     })
 }
 
-fn one_goal(alloc: Global, goal: &Sequent) -> Result<Goals, AllocError>
-    ensures { IfOk result (λ made. made ≡ goal.now ∷ []) }
+/// The goal of a lemma, whose modules are declared while steps run.
+fn one_goal(alloc: Global, statement: &Sequent) -> Result<Goals, AllocError>
+    ensures { IfOk result (λ made. made ≡ with_declared_modules statement.now ∷ []) }
 {
     let mut goals = Goals::new(alloc);
-    goals.push(goal.share()?)?;
+    let none = SharedItems::empty(alloc)?;
+    goals.push(statement.with_modules(none)?)?;
     Ok(goals)
 }
 
@@ -351,7 +359,7 @@ fn bring_loops(alloc: Global, scope: &mut Scope, procedure: ProcName) -> Result<
 }
 
 /// A tactic works on the first goal, and puts what is left of it in front of the others. Where it is refused the proof stays as
-/// it was.
+/// it was; where memory runs out it is given up.
 fn prove(alloc: Global, state: &mut State, tree: &Node, place: Place) -> Result<(), Refused>
     ensures session { Leads (Proves (session_of state.old) tree.now place) (session_of state.new) result }
     ensures kept { IsKept (session_of state.old) (session_of state.new) result }
@@ -359,16 +367,19 @@ fn prove(alloc: Global, state: &mut State, tree: &Node, place: Place) -> Result<
     let Some(proof) = state.proof.take() else {
         return Err(refused(Why::NoGoal, place));
     };
-    match subgoals(alloc, &state.scope, &proof.goals, tree, place) {
+    match left_of(alloc, &mut state.scope, &proof, tree, place) {
         Ok(next) => {
             let proof = stepped(proof, next)?;
             state.proof = Some(proof);
             Ok(())
         }
-        Err(refused) => {
+        Err(Refused::Script { why, place }) => {
             state.proof = Some(proof);
-            Err(refused)
+            Err(Refused::Script { why, place })
         }
+        // nothing is said of the scope, so no proof is open in it
+        Err(Refused::NoMemory) => Err(Refused::NoMemory),
+        Err(Refused::ReadFault) => Err(Refused::ReadFault),
     }
 }
 
@@ -389,6 +400,29 @@ fn stepped(proof: OpenProof, next: Sequents) -> Result<OpenProof, AllocError>
     })
 }
 
+/// The goals that a tactic puts in the place of the first one, while the modules that the lemma binds are declared. Then the scope is as
+/// it was; where memory ran out nothing is said of it.
+fn left_of(
+    alloc: Global,
+    scope: &mut Scope,
+    proof: &OpenProof,
+    tree: &Node,
+    place: Place,
+) -> Result<Sequents, Refused>
+    requires { is_new scope.old proof.now.claim ≡ true }
+    ensures answer { (s : Session) → s.scope ≡ scope.old → Meets (λ next. with_goals s (open_of proof.now) (next ++ drop 1 proof.now.goals))
+        (WorksOn proof.now.goals s (open_of proof.now) tree.now place) result }
+    ensures kept { OnOk result (scope.new ≡ scope.old) }
+    ensures refused { (why : ScriptWhy) (place : ScriptPlace) → result ≡ Err (Script why place) → scope.new ≡ scope.old }
+{
+    let declared = scope.len();
+    let modules = binder_entries(alloc, proof.claim.modules())?;
+    scope.declare_all(alloc, modules)?;
+    let next = subgoals(alloc, scope, &proof.goals, tree, place);
+    scope.truncate(declared);
+    next
+}
+
 /// The goals that a tactic puts in the place of the first one.
 fn subgoals(
     alloc: Global,
@@ -397,7 +431,7 @@ fn subgoals(
     tree: &Node,
     place: Place,
 ) -> Result<Sequents, Refused>
-    ensures { (s : Session) (p : Opened) → s.scope ≡ scope.now
+    ensures { (s : Session) (p : Opened) → seen_in s.scope p.claim ≡ scope.now
         → Meets (λ next. with_goals s p (next ++ drop 1 goals.now)) (WorksOn goals.now s p tree.now place) result }
 {
     let Some(first) = goals.get(0) else {

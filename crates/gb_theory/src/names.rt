@@ -13,6 +13,7 @@ use gb_core::place::Place;
 use gb_core::refusal::Refused;
 use gb_core::same::same_name;
 use gb_elab_mod::conclusions::is_taken;
+use gb_goal::scope::Scope;
 use gb_goal::sequent::Sequent;
 use gb_names::refusals::double;
 use gb_script::head::Head;
@@ -20,21 +21,34 @@ use gb_script::tree::Node;
 use sqlite_items::Items;
 use std::alloc::{AllocError, Global};
 
-/// Refuses the first name of patterns that isn't new at a goal.
-pub fn check_new(alloc: Global, goal: &Sequent, patterns: &[Node]) -> Result<(), Refused>
-    ensures { Answers (all_new goal.now patterns.now) result }
+/// Refuses the first name of patterns that isn't new at a goal: one that its context has, or that an abstract module has which its
+/// lemma binds, or a name that stands twice.
+pub fn check_new(
+    alloc: Global,
+    scope: &Scope,
+    goal: &Sequent,
+    patterns: &[Node],
+) -> Result<(), Refused>
+    ensures { Answers (all_new scope.now goal.now patterns.now) result }
 {
-    all_added(alloc, goal, patterns, &[])?;
+    all_added(alloc, scope, goal, patterns, &[])?;
     Ok(())
 }
 
 /// The names that a pattern adds to those in use.
 #[cycle(names)]
-fn added(alloc: Global, goal: &Sequent, pattern: &Node, used: &[Name]) -> Result<Names, Refused>
-    ensures { Answers (added goal.now pattern.now used.now) result }
+fn added(
+    alloc: Global,
+    scope: &Scope,
+    goal: &Sequent,
+    pattern: &Node,
+    used: &[Name],
+) -> Result<Names, Refused>
+    ensures { Answers (added scope.now goal.now pattern.now used.now) result }
 {
     added_by(
         alloc,
+        scope,
         goal,
         pattern.head,
         &pattern.text,
@@ -48,6 +62,7 @@ fn added(alloc: Global, goal: &Sequent, pattern: &Node, used: &[Name]) -> Result
 #[cycle(names)]
 fn added_by(
     alloc: Global,
+    scope: &Scope,
     goal: &Sequent,
     head: Head,
     text: &Name,
@@ -55,20 +70,20 @@ fn added_by(
     place: Place,
     used: &[Name],
 ) -> Result<Names, Refused>
-    ensures { Answers (added_by goal.now head text.now (with_added goal.now parts.now) place used.now) result }
+    ensures { Answers (added_by scope.now goal.now head text.now (with_added scope.now goal.now parts.now) place used.now) result }
 {
     match head {
-        Head::Name => new_name(alloc, goal, text, place, used),
+        Head::Name => new_name(alloc, scope, goal, text, place, used),
         Head::EitherPattern => match parts {
             [left, right] => {
-                let mut names = added(alloc, goal, left, used)?;
-                let others = added(alloc, goal, right, used)?;
+                let mut names = added(alloc, scope, goal, left, used)?;
+                let others = added(alloc, scope, goal, right, used)?;
                 names.append(others)?;
                 Ok(names)
             }
-            _ => all_added(alloc, goal, parts, used),
+            _ => all_added(alloc, scope, goal, parts, used),
         },
-        _ => all_added(alloc, goal, parts, used),
+        _ => all_added(alloc, scope, goal, parts, used),
     }
 }
 
@@ -76,16 +91,17 @@ fn added_by(
 #[cycle(names)]
 fn all_added(
     alloc: Global,
+    scope: &Scope,
     goal: &Sequent,
     patterns: &[Node],
     used: &[Name],
 ) -> Result<Names, Refused>
-    ensures { Answers (all_added (each_adds goal.now patterns.now) used.now []) result }
+    ensures { Answers (all_added (each_adds scope.now goal.now patterns.now) used.now []) result }
 {
     let mut names = Items::new(alloc);
     for pattern in patterns {
         let known = joined(alloc, used, &names)?;
-        let more = added(alloc, goal, pattern, known.as_slice())?;
+        let more = added(alloc, scope, goal, pattern, known.as_slice())?;
         names.append(more)?;
     }
     Ok(names)
@@ -94,14 +110,15 @@ fn all_added(
 /// A name alone that is new.
 fn new_name(
     alloc: Global,
+    scope: &Scope,
     goal: &Sequent,
     name: &Name,
     place: Place,
     used: &[Name],
 ) -> Result<Names, Refused>
-    ensures { Answers (added_by goal.now Head.Name name.now [] place used.now) result }
+    ensures { Answers (added_by scope.now goal.now Head.Name name.now [] place used.now) result }
 {
-    if is_taken(goal, name) || is_among(used, name) {
+    if is_taken(goal, name) || scope.abstract_module(name).is_some() || is_among(used, name) {
         return Err(double(alloc, name, place));
     }
     let mut one = Items::new(alloc);

@@ -114,7 +114,7 @@ fn on_guard(
 {
     match acts {
         Acts::All => gb_inline::apply::apply(alloc, step, goal, scope),
-        _ => gb_beside::beside::apply(alloc, acts, at, holds, step.place, goal),
+        _ => gb_beside::beside::apply(alloc, acts, at, holds, step.place, goal, scope),
     }
 }
 
@@ -284,7 +284,7 @@ pub fn work_on_one(
     tactic: &Node,
     goal: &Sequent,
 ) -> Result<Sequents, Refused>
-    ensures { (f : Tree → Stepping) → AreRules scope.now f → Answers (works f tactic.now (goal.now ∷ [])) result }
+    ensures { (f : Tree → Stepping) → AreRules scope.now f → Answers (works scope.now f tactic.now (goal.now ∷ [])) result }
 {
     let one = only(alloc, goal)?;
     work(alloc, scope, tactic, one.as_slice())
@@ -293,7 +293,7 @@ pub fn work_on_one(
 /// What a step, a pattern, or what stands behind a `;`, makes of goals.
 #[cycle(tactic)]
 fn work(alloc: Global, scope: &Scope, tree: &Node, goals: &[Sequent]) -> Result<Sequents, Refused>
-    ensures { (f : Tree → Stepping) → AreRules scope.now f → Answers (works f tree.now goals.now) result }
+    ensures { (f : Tree → Stepping) → AreRules scope.now f → Answers (works scope.now f tree.now goals.now) result }
 {
     if is_pattern(tree.head) {
         return pattern(alloc, scope, tree, goals);
@@ -316,7 +316,7 @@ fn pattern(
     tree: &Node,
     goals: &[Sequent],
 ) -> Result<Sequents, Refused>
-    ensures { (f : Tree → Stepping) → AreRules scope.now f → Answers (on_each (fits f tree.now) goals.now) result }
+    ensures { (f : Tree → Stepping) → AreRules scope.now f → Answers (on_each (fits scope.now f tree.now) goals.now) result }
 {
     let mut left = Items::new(alloc);
     for goal in goals {
@@ -329,7 +329,7 @@ fn pattern(
 /// A pattern on a goal: first it works as a rule, and then what stands inside it.
 #[cycle(tactic)]
 fn fit(alloc: Global, scope: &Scope, tree: &Node, goal: &Sequent) -> Result<Sequents, Refused>
-    ensures { (f : Tree → Stepping) → AreRules scope.now f → Answers (fits f tree.now goal.now) result }
+    ensures { (f : Tree → Stepping) → AreRules scope.now f → Answers (fits scope.now f tree.now goal.now) result }
 {
     let goals = pattern_rule(alloc, scope, tree, goal)?;
     inside(
@@ -353,7 +353,7 @@ fn inside(
     goals: Sequents,
 ) -> Result<Sequents, Refused>
     ensures { (f : Tree → Stepping) → AreRules scope.now f
-        → Answers (inside head (worked f head (with_works f parts.now) place) goals) result }
+        → Answers (inside head (worked scope.now f head (with_works scope.now f parts.now) place) goals) result }
 {
     match head {
         Head::BothPatterns => worked(alloc, scope, head, parts, place, goals.as_slice()),
@@ -372,7 +372,7 @@ fn worked(
     place: Place,
     goals: &[Sequent],
 ) -> Result<Sequents, Refused>
-    ensures { (f : Tree → Stepping) → AreRules scope.now f → Answers (worked f head (with_works f parts.now) place goals.now) result }
+    ensures { (f : Tree → Stepping) → AreRules scope.now f → Answers (worked scope.now f head (with_works scope.now f parts.now) place goals.now) result }
 {
     match head {
         Head::Next => match parts {
@@ -395,7 +395,7 @@ fn on_each(
     place: Place,
     goals: &[Sequent],
 ) -> Result<Sequents, Refused>
-    ensures { (f : Tree → Stepping) → AreRules scope.now f → Answers (on_each (stepped_by f head (with_works f parts.now) place) goals.now) result }
+    ensures { (f : Tree → Stepping) → AreRules scope.now f → Answers (on_each (stepped_by scope.now f head (with_works scope.now f parts.now) place) goals.now) result }
 {
     let mut left = Items::new(alloc);
     for goal in goals {
@@ -415,7 +415,7 @@ fn stepped_by(
     place: Place,
     goal: &Sequent,
 ) -> Result<Sequents, Refused>
-    ensures { (f : Tree → Stepping) → AreRules scope.now f → Answers (stepped_by f head (with_works f parts.now) place goal.now) result }
+    ensures { (f : Tree → Stepping) → AreRules scope.now f → Answers (stepped_by scope.now f head (with_works scope.now f parts.now) place goal.now) result }
 {
     match head {
         Head::Tactic => in_turn(alloc, scope, parts, only(alloc, goal)?),
@@ -453,7 +453,7 @@ fn by(
     place: Place,
     goal: &Sequent,
 ) -> Result<Sequents, Refused>
-    ensures { (f : Tree → Stepping) → AreRules scope.now f → Answers (works f step.now (goal.now ∷ []) and_then on_each (f (done_at place))) result }
+    ensures { (f : Tree → Stepping) → AreRules scope.now f → Answers (works scope.now f step.now (goal.now ∷ []) and_then on_each (f (done_at place))) result }
 {
     let one = only(alloc, goal)?;
     let left = work(alloc, scope, step, one.as_slice())?;
@@ -469,7 +469,7 @@ fn with_patterns(
     place: Place,
     goal: &Sequent,
 ) -> Result<Sequents, Refused>
-    ensures { (f : Tree → Stepping) → AreRules scope.now f → Answers (stepped_by f Head.Rule (with_works f parts.now) place goal.now) result }
+    ensures { (f : Tree → Stepping) → AreRules scope.now f → Answers (stepped_by scope.now f Head.Rule (with_works scope.now f parts.now) place goal.now) result }
 {
     match parts {
         [tree, introduction] => {
@@ -483,7 +483,7 @@ fn with_patterns(
 /// A rule; `move` has none but its patterns.
 #[cycle(tactic)]
 fn ruled(alloc: Global, scope: &Scope, tree: &Node, goal: &Sequent) -> Result<Sequents, Refused>
-    ensures { (f : Tree → Stepping) → AreRules scope.now f → Answers (ruled f (head_of tree.now) (tree.now, works f tree.now) goal.now) result }
+    ensures { (f : Tree → Stepping) → AreRules scope.now f → Answers (ruled f (head_of tree.now) (tree.now, works scope.now f tree.now) goal.now) result }
 {
     match tree.head {
         Head::Move => work(alloc, scope, tree, only(alloc, goal)?.as_slice()),
@@ -499,9 +499,9 @@ fn introduced(
     patterns: &[Node],
     goal: &Sequent,
 ) -> Result<Sequents, Refused>
-    ensures { (f : Tree → Stepping) → AreRules scope.now f → Answers (introduced (with_works f patterns.now) goal.now) result }
+    ensures { (f : Tree → Stepping) → AreRules scope.now f → Answers (introduced scope.now (with_works scope.now f patterns.now) goal.now) result }
 {
-    check_new(alloc, goal, patterns)?;
+    check_new(alloc, scope, goal, patterns)?;
     in_turn(alloc, scope, patterns, only(alloc, goal)?)
 }
 
@@ -513,7 +513,7 @@ fn in_turn(
     steps: &[Node],
     goals: Sequents,
 ) -> Result<Sequents, Refused>
-    ensures { (f : Tree → Stepping) → AreRules scope.now f → Answers (in_turn (each_works f steps.now) goals) result }
+    ensures { (f : Tree → Stepping) → AreRules scope.now f → Answers (in_turn (each_works scope.now f steps.now) goals) result }
 {
     let mut left = goals;
     for step in steps {
@@ -531,7 +531,7 @@ fn spread(
     place: Place,
     goals: &[Sequent],
 ) -> Result<Sequents, Refused>
-    ensures { (f : Tree → Stepping) → AreRules scope.now f → Answers (spread (each_works f tactics.now) place goals.now) result }
+    ensures { (f : Tree → Stepping) → AreRules scope.now f → Answers (spread (each_works scope.now f tactics.now) place goals.now) result }
 {
     if tactics.len() != goals.len() {
         return Err(argument(place));
@@ -548,7 +548,7 @@ fn spread(
 /// A step on one goal, which a refusal leaves. Want of memory isn't caught.
 #[cycle(tactic)]
 fn attempt(alloc: Global, scope: &Scope, step: &Node, goal: &Sequent) -> Result<Sequents, Refused>
-    ensures { (f : Tree → Stepping) → AreRules scope.now f → Answers (or_left (works f step.now (goal.now ∷ [])) goal.now) result }
+    ensures { (f : Tree → Stepping) → AreRules scope.now f → Answers (or_left (works scope.now f step.now (goal.now ∷ [])) goal.now) result }
 {
     let one = only(alloc, goal)?;
     let made = work(alloc, scope, step, one.as_slice());
@@ -565,7 +565,7 @@ fn times(
     goals: Sequents,
 ) -> Result<Sequents, Refused>
     ensures { (f : Tree → Stepping) → AreRules scope.now f
-        → Answers (times (number_of (text_of count.now)) (place_of count.now) (works f step.now) goals) result }
+        → Answers (times (number_of (text_of count.now)) (place_of count.now) (works scope.now f step.now) goals) result }
 {
     let Some(rounds) = times_allowed(count) else {
         return Err(argument(count.place));

@@ -1,7 +1,5 @@
 -- `swap`: what moves runs alike.
-use Rattle.std.proofs.Common.{◌≡◌, ℕ, zero, suc, ◌-◌, nat_lt, Bool, true, false, if◌then◌else◌, List, [], ◌∷◌, ◌++◌, length, take, drop, append_assoc, Option, Some, None, refl, ap, sym, ◌∙◌, subst}
-use Rattle.gb_core.specs.declared.refusal.Why.TheVariants.{Argument}
-use Rattle.gb_core.specs.declared.var.Var.{Var}
+use Rattle.std.proofs.Common.{◌≡◌, ℕ, List, ◌++◌, drop, append_assoc, Some, ap, sym, ◌∙◌, subst}
 use Rattle.gb_terms.specs.declared.decl.Proc.{Proc}
 use Rattle.gb_terms.specs.declared.decl.TypedName.{TypedName}
 use Rattle.gb_terms.specs.declared.module.ProcRef.{ProcRef}
@@ -11,9 +9,7 @@ use Rattle.gb_meaning.specs.Program.Routine.{routine}
 use Rattle.gb_meaning.specs.Setting.{Setting}
 use Rattle.gb_meaning.specs.State.{State}
 use Rattle.gb_holds.specs.Declared.{declared}
-use Rattle.gb_goal.specs.Answers.{Answer, ◌>>=◌}
-use Rattle.gb_goal.specs.Answers.Answer.{given, refused}
-use Rattle.gb_goal.specs.Rows.{refusing}
+use Rattle.gb_goal.specs.Answers.Answer.{given}
 use Rattle.gb_goal.specs.Scope.{Declarations, procedure_of}
 use Rattle.gb_goal.specs.declared.sequent.Sequent.{Sequent}
 use Rattle.gb_steps.specs.declared.step.Acts.{Acts}
@@ -29,10 +25,9 @@ use Rattle.gb_parts.specs.OneBody.{OneBody}
 use Rattle.gb_prog.specs.Ends.{IsSoundLoopRule}
 use Rattle.gb_prog.specs.Loops.{RunAlike}
 use Rattle.gb_prog.proofs.Couplings.{alike_back, alike_between}
-use Rattle.gb_premises.specs.declared.effects.Effects.{Effects}
 use Rattle.gb_steps.specs.declared.step.Passing.{Passing}
-use Rattle.gb_trans.specs.Effects.{crossing, effects_of}
-use Rattle.gb_trans.specs.Swap.{apart, before, exchange, exchanged, first, moved, rest, second, swap_row, swapped, unless_crossing}
+use Rattle.gb_trans.specs.Effects.{effects_of}
+use Rattle.gb_trans.specs.Swap.{before, exchanged, first, rest, second, swap_row, swapped}
 use Rattle.gb_trans.proofs.Alike.{Nothing, IsAlike, loops_always, transformed_always}
 use Rattle.gb_trans.proofs.Known.{uncrossed_alike}
 use Rattle.gb_trans.proofs.Swapped.{in_parts, swap_ends, swapped_stands, AreApart}
@@ -100,7 +95,7 @@ module _ (ds : Declarations) (scoped : IsTypedScope (declared ds)) (t : Sequent)
   linked : (g : Setting) → IsSettingOver (declared ds) g → (r : ProcRef) (p : Proc) → procedure_of ds r ≡ Some p → g.procedure r ≡ Some (routine p.params p.locals (statements g p.body.list) p.value)
   linked g over r p e =
       subst (λ h. h.procedure r ≡ Some (routine p.params p.locals (statements h p.body.list) p.value)) (sym over.meant)
-      (linked_there ds scoped over.interpretation (let x = over.chosen in x.unchosen) r p e)
+      (linked_there ds scoped over.interpretation over.chosen r p e)
 
   alike : IsAlike (declared ds) c Nothing (λ (o : OneBody). swapped ds w o.list)
   alike = swapped_alike ds c (λ r p e. (typed_there ds scoped t typed.modules typed.frames r p e).typed) linked w

@@ -63,4 +63,4 @@ same_events ds scoped q t g over w is js e ls b s m event =
     linked : (r : ProcRef) (p : Proc) → procedure_of ds r ≡ Some p → g.procedure r ≡ Some (routine p.params p.locals (statements g p.body.list) p.value)
     linked r p e =
         subst (λ h. h.procedure r ≡ Some (routine p.params p.locals (statements h p.body.list) p.value)) (sym over.meant)
-        (linked_there ds scoped over.interpretation (let x = over.chosen in x.unchosen) r p e)
+        (linked_there ds scoped over.interpretation over.chosen r p e)

@@ -19,7 +19,7 @@ use Rattle.gb_holds.specs.Settings.{Chosen, Interpretation, types_of, bare, with
 use Rattle.gb_typing.specs.Chosen.{chosen_under, IsChosenIf, AreChosen, AreUnchosen, IsChosenOver}
 use Rattle.gb_typing.specs.Context.{Context}
 use Rattle.gb_typing.specs.Formulas.{IsKnown, with_module as with_bound}
-use Rattle.gb_typing.specs.Modules.{Modules, functor_type, of_functor_type}
+use Rattle.gb_typing.specs.Modules.{functor_type, of_functor_type}
 use Rattle.gb_typing.specs.Scopes.{nothing, with_declared, context_of, AreTypedAfter, IsTypedScope}
 use Rattle.gb_typing.specs.Sequents.{AreBinders, with_modules}
 use Rattle.gb_typing.proofs.KeptPrograms.{chosen_kept, linked_is}
@@ -63,17 +63,18 @@ module _ (ds : Declarations) where
             chosen_footprint cs _ n x e ∙ sym (chosen_footprint cs (λ k. no_module) n x e)
             ∙ sym (chosen_kept footprint_read cs n x e ds (with_abstract_footprints ds cs (λ k. no_module)) u)
 
--- In a script, which has no abstract modules, no more is needed.
+-- Without abstract modules no more is needed.
 
-pub script_closed : (ds : scope.Declarations) → IsTypedScope (declared ds) → (g : Setting) (cs : List Chosen) → AreUnchosen cs (declared ds) →
+pub script_closed : (ds : scope.Declarations) → IsTypedScope (declared ds) → declared_modules (declared ds) ≡ [] → (g : Setting) (cs : List Chosen) → AreUnchosen cs (declared ds) →
     AreClosed (context_of (declared ds)).modules (linked_modules (declared ds) g cs)
-script_closed ds w g cs u =
-    scope_closed (linked_procedure g) (linking-looks g) (declared ds) w (with_abstract_programs (declared ds) cs (λ k. no_module)) (script_alike ds nothing _ _) (linked_modules (declared ds) g cs)
+script_closed ds w none g cs u =
+    scope_closed (linked_procedure g) (linking-looks g) (declared ds) w (with_abstract_programs (declared ds) cs (λ k. no_module)) (script_alike ds none nothing _ _) (linked_modules (declared ds) g cs)
     (λ k j e. linked_is (declared ds) g cs u k)
 
-pub script_touched : (ds : scope.Declarations) → IsTypedScope (declared ds) → (cs : List Chosen) → AreUnchosen cs (declared ds) → AreClosed (context_of (declared ds)).modules (footprints (declared ds) cs)
-script_touched ds w cs u =
-    scope_closed footprint_read footprint-looks (declared ds) w (with_abstract_footprints (declared ds) cs (λ k. no_module)) (script_alike ds nothing _ _) (footprints (declared ds) cs)
+pub script_touched : (ds : scope.Declarations) → IsTypedScope (declared ds) → declared_modules (declared ds) ≡ [] → (cs : List Chosen) → AreUnchosen cs (declared ds) →
+    AreClosed (context_of (declared ds)).modules (footprints (declared ds) cs)
+script_touched ds w none cs u =
+    scope_closed footprint_read footprint-looks (declared ds) w (with_abstract_footprints (declared ds) cs (λ k. no_module)) (script_alike ds none nothing _ _) (footprints (declared ds) cs)
     (λ k j e. touched_is (declared ds) cs u k)
 
 -- Programs that are chosen.
@@ -133,9 +134,13 @@ module _ (all : Declarations) (i : Interpretation) where
     none_agree : settings.Agree all (nothing.modules).types
     none_agree = record { declared = λ n t e. absurd (none-some t e); params = λ n t e. absurd (none-some t e) }
 
+    -- the programs give the same for arguments that are alike
+    pub chosen_alike : AreAbstractAlike nothing all base base
+    chosen_alike = programs_alike all [] nothing refl scoped none_agree chosen.chosen
+
     pub setting_closed : AreClosed (context_of all).modules modules
     setting_closed =
-        scope_closed (linked_procedure h) (linking-looks h) all scoped base (programs_alike all [] nothing refl scoped none_agree chosen.chosen) modules
+        scope_closed (linked_procedure h) (linking-looks h) all scoped base chosen_alike modules
         (λ k j e. linked_is all h i.programs chosen.unchosen k)
 
     binders_closed : (bs : List Bind) (c : Context) → settings.Agree all c.modules.types → AreClosed c.modules modules → AreBinders c bs → AreChosen all i bs → AreClosed (with_modules c bs).modules modules

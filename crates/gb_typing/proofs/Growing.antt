@@ -86,11 +86,11 @@ AreKnown f (p ∷ ps) = IsKnown (f p.ty) × AreKnown f ps
 abbrev pub HasParams : (Name → Option ModuleType) → Type 0
 HasParams f = (n : Name) (t : ModuleType) → f n ≡ Some t → AreKnown f t.params
 
-known_some : {A : Type 0} (o : Option A) → IsKnown o → (x : A) × (o ≡ Some x)
+pub known_some : {A : Type 0} (o : Option A) → IsKnown o → (x : A) × (o ≡ Some x)
 known_some None k = absurd k
 known_some (Some x) k = (x, refl)
 
-known_params : (ms : Modules) (ps : List Param) → AreParams ms ps → AreKnown ms.types ps
+pub known_params : (ms : Modules) (ps : List Param) → AreParams ms ps → AreKnown ms.types ps
 known_params ms [] w = tt
 known_params ms (p ∷ ps) w = (w.0.0, known_params (with_param ms p) ps w.1)
 
@@ -99,10 +99,10 @@ known_taken ms [] w = tt
 known_taken ms (p ∷ ps) w = (w.0.0, known_taken (with_param ms p) ps w.1)
 
 module _ (f g : Name → Option ModuleType) (k : KeepsTypes f g) where
-  same_at : (n : Name) → IsKnown (f n) → f n ≡ g n
+  pub same_at : (n : Name) → IsKnown (f n) → f n ≡ g n
   same_at n w = let x = known_some (f n) w in x.1 ∙ sym (k n x.0 x.1)
 
-  known_on : (ps : List Param) → AreKnown f ps → AreKnown g ps
+  pub known_on : (ps : List Param) → AreKnown f ps → AreKnown g ps
   known_on [] w = tt
   known_on (p ∷ ps) w = (subst IsKnown (same_at p.ty w.0) w.0, known_on ps w.1)
 
@@ -110,7 +110,7 @@ module _ (f g : Name → Option ModuleType) (k : KeepsTypes f g) where
   same_signatures [] w = refl
   same_signatures (p ∷ ps) w = let one = same_at p.ty w.0 in let rest = same_signatures ps w.1 in λ i. signature_types (signatures_of (one i)) ∷ rest i
 
-  same_functor : (o : Option ModuleType) → AreKnown f (params_in o) → functor_type f o ≡ functor_type g o
+  pub same_functor : (o : Option ModuleType) → AreKnown f (params_in o) → functor_type f o ≡ functor_type g o
   same_functor o w = let rest = same_signatures (params_in o) w in λ i. record { lacks = rest i; procedures = signature_types (signatures_of o) }
 
   -- what a module lacks stays the same
@@ -137,7 +137,7 @@ module _ (c : Context) (before : Declarations) (n : Name) (k : KnowsDeclared bef
         step true e = subst (λ z. AreKnown further z.params) (same_some t u e) (known_on c.modules.types further further_keeps t.params (known_params c.modules t.params w.params))
         step false e = known_on c.modules.types further further_keeps u.params (has h u e)
 
-  next_params : (d : Declaration) → is_declared before n ≡ false → IsDeclared c n d → HasParams (with_declared c n d).modules.types
+  pub next_params : (d : Declaration) → is_declared before n ≡ false → IsDeclared c n d → HasParams (with_declared c n d).modules.types
   next_params abstract_type free w = has
   next_params (abbreviation a) free w = has
   next_params (operator o) free w = has

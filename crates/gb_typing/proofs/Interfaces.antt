@@ -26,6 +26,13 @@ same_some {A} x y e = ap (λ (o : Option A). or_else o) e
     or_else None = x
     or_else (Some z) = z
 
+pub cons_nil : {A : Type 0} {P : Type 0} (x : A) (xs : List A) → x ∷ xs ≡ [] → P
+cons_nil {A} x xs e = absurd (false≢true (ap is_empty e))
+  where
+    is_empty : List A → Bool
+    is_empty [] = true
+    is_empty (y ∷ ys) = false
+
 pub same_name : (n k : Name) → bytes_eq n k ≡ true → n ≡ k
 same_name n k e = (bytes_eq-Decides n k).0 e
 

@@ -21,7 +21,7 @@ fresh_later [] before c w k e = tt
 fresh_later ((n, d) ∷ ds) before c w k e = (other_name before k n e w.0, fresh_later ds (before ++ (n, d) ∷ []) (with_declared c n d) w.2 k (declared_more before (n, d) k e))
 
 -- what is known under a name that is declared stays known as it is
-one_stays : (c : Context) (n : Name) (d : Declaration) (k : Name) → IsDeclared c n d → bytes_eq k n ≡ false → (with_declared c n d).modules.interfaces k ≡ c.modules.interfaces k
+pub one_stays : (c : Context) (n : Name) (d : Declaration) (k : Name) → IsDeclared c n d → bytes_eq k n ≡ false → (with_declared c n d).modules.interfaces k ≡ c.modules.interfaces k
 one_stays c n (concrete_module m) k w e = ap (λ b. if b then Some (interface_with c.modules.types m.params (procedure_types m.procs)) else c.modules.interfaces k) e
 one_stays c n (abstract_module a) k w e =
     ap (λ b. if b then Some (of_functor_type (functor_type c.modules.types (c.modules.types a.ty))) else c.modules.interfaces k) (ap (bytes_eq k) w.0 ∙ e)
@@ -34,7 +34,7 @@ one_stays c n (axiom_of q) k w e = refl
 one_stays c n (lemma q) k w e = refl
 one_stays c n (terminating f) k w e = refl
 
-each_stays : (ds before : Declarations) (c : Context) → AreTypedAfter c before ds → (k : Name) → is_declared before k ≡ true → (with_each c ds).modules.interfaces k ≡ c.modules.interfaces k
+pub each_stays : (ds before : Declarations) (c : Context) → AreTypedAfter c before ds → (k : Name) → is_declared before k ≡ true → (with_each c ds).modules.interfaces k ≡ c.modules.interfaces k
 each_stays [] before c w k e = refl
 each_stays (d ∷ ds) before c w k e =
     each_stays ds (before ++ d ∷ []) (with_declared c d.0 d.1) w.2 k (declared_more before d k e) ∙ one_stays c d.0 d.1 k w.1 (other_name before k d.0 e w.0)

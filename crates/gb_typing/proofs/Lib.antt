@@ -47,6 +47,8 @@ pub mod Additions
 pub mod HiddenModule
 pub mod LinkedProcedures
 pub mod WholeReads
+pub mod ParameterTypes
+pub mod AbstractModules
 pub mod Located
 pub mod Standing
 pub mod Agreed
@@ -118,3 +120,4 @@ pub mod LastSampling
 pub mod Spared
 pub mod Narrowed
 pub mod DeclaredProcedures
+pub mod DeclaredModules

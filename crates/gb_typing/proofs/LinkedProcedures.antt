@@ -20,18 +20,18 @@ use Rattle.gb_holds.specs.Modules.{procedure_at}
 use Rattle.gb_holds.specs.Modules as linked
 use Rattle.gb_holds.specs.Settings.{Interpretation, types_of, bare as bare_setting, with_operators, setting}
 use Rattle.gb_holds.proofs.Lists.{declared-module}
-use Rattle.gb_typing.specs.Chosen.{AreUnchosen}
+use Rattle.gb_typing.specs.Chosen.{IsChosenOver}
 use Rattle.gb_typing.specs.Context.{procedure}
 use Rattle.gb_typing.specs.Scopes.{context_of, IsTypedScope}
 use Rattle.gb_typing.proofs.ChosenInstances.{instance_runs}
-use Rattle.gb_typing.proofs.ClosedSettings.{script_closed}
+use Rattle.gb_typing.proofs.ClosedSettings.{chosen_alike, setting_closed}
 use Rattle.gb_typing.proofs.KeptPrograms.{chosen, linked_is}
 use Rattle.gb_typing.proofs.Located.{typed_in_scope}
 use Rattle.gb_typing.proofs.ModulesAlike.{linking-looks}
 use Rattle.gb_typing.proofs.Standing.{of_instance}
 use Rattle.gb_typing.proofs.WholeReads.{read_whole}
 
-module _ (ds : scope.Declarations) (scoped : IsTypedScope (declared ds)) (i : Interpretation) (unchosen : AreUnchosen i.programs (declared ds)) where
+module _ (ds : scope.Declarations) (scoped : IsTypedScope (declared ds)) (i : Interpretation) (over : IsChosenOver (declared ds) i) where
   abbrev g : Setting
   g = setting (declared ds) i
 
@@ -42,8 +42,8 @@ module _ (ds : scope.Declarations) (scoped : IsTypedScope (declared ds)) (i : In
       g.procedure (record { «module» = named n; name = f }) ≡ Some (routine p.params p.locals (statements g p.body.list) p.value)
   linked_at n f p e =
       subst (λ (ms : linked.Modules Routine). procedure_at ms (record { «module» = named n; name = f }) ≡ Some (linked_procedure h (procedure_at ms) p))
-      (sym (fun_ext (linked_is (declared ds) h i.programs unchosen)))
-      (read_whole (linked_procedure h) (linking-looks h) (chosen (declared ds) h i.programs unchosen) ds scoped n f p e)
+      (sym (fun_ext (linked_is (declared ds) h i.programs over.unchosen)))
+      (read_whole (linked_procedure h) (linking-looks h) (chosen (declared ds) h i.programs over.unchosen) ds scoped (chosen_alike (declared ds) i scoped over) n f p e)
 
   linked_in : (m : Mexp) (f : Name) (p : Proc) → proc_at ds m f ≡ Some p → procedure (context_of (declared ds)) (record { «module» = m; name = f }) ≡ Some (type_of_procedure p) →
       g.procedure (record { «module» = m; name = f }) ≡ Some (routine p.params p.locals (statements g p.body.list) p.value)
@@ -51,7 +51,7 @@ module _ (ds : scope.Declarations) (scoped : IsTypedScope (declared ds)) (i : In
   linked_in (Apply' n k args) f p e t =
       let x = of_instance ds n f (mexps_in args) p e in
       subst (λ (z : Proc). g.procedure (record { «module» = Apply' n k args; name = f }) ≡ Some (routine z.params z.locals (statements g z.body.list) z.value)) x.is
-      (instance_runs (declared ds) scoped i unchosen (context_of (declared ds)) (λ k j e. e) (script_closed ds scoped h i.programs unchosen)
+      (instance_runs (declared ds) scoped i over.unchosen (context_of (declared ds)) (λ k j e. e) (setting_closed (declared ds) i scoped over)
       (record { «module» = Apply' n k args; name = f }) (type_of_procedure p) t x.found (declared-module ds n ∙ x.there) x.own x.procedure)
 
   -- a concrete procedure is its body

@@ -5,6 +5,7 @@ use Rattle.gb_goal.specs.declared.scope.Entry.TheVariants as entry
 use Rattle.gb_goal.specs.Scope as scope
 use Rattle.gb_meaning.specs.Names.{Name}
 use Rattle.gb_holds.specs.Declared.{Declarations, Declaration, declared, abstract_type, abbreviation, operator, abstract_operator, module_type, concrete_module, abstract_module, axiom_of, lemma, terminating}
+use Rattle.gb_holds.specs.Holds.{declared_modules}
 use Rattle.gb_holds.specs.Modules.{Applied, Reading, with_module, module_read, modules_of}
 use Rattle.gb_holds.specs.Modules as linked
 use Rattle.gb_typing.specs.Modules.{Interface, functor_type, of_functor_type}
@@ -12,6 +13,7 @@ use Rattle.gb_typing.specs.Context.{Context}
 use Rattle.gb_typing.specs.Scopes.{nothing, interface_with, procedure_types, with_declared, with_each, context_of, is_declared, AreTypedAfter, IsTypedScope}
 use Rattle.gb_typing.specs.Alike.{LooksAtCalls, StandAlike, AreAllAlike, AreAbstractAlike, AreClosed}
 use Rattle.gb_typing.proofs.Declaring.{undeclared}
+use Rattle.gb_typing.proofs.Interfaces.{cons_nil}
 use Rattle.gb_typing.proofs.ReadingsAlike.{with_alike, named_alike, module_stands}
 
 module _ {X : Type 0} where
@@ -73,15 +75,30 @@ module _ {X : Type 0} where
       ((k : Name) (i : Interface) → (context_of ds).modules.interfaces k ≡ Some i → final k ≡ modules_of read base ds k) → AreClosed (context_of ds).modules final
   scope_closed read looks ds w base a final h k i e = subst (λ z. StandAlike i z z) (sym (h k i e)) (scope_alike read looks base base ds w a k i e)
 
-  -- a script has no abstract modules
-  pub script_alike : (ds : scope.Declarations) (c : Context) (ks ls : linked.Modules X) → AreAbstractAlike c (declared ds) ks ls
-  script_alike [] c ks ls = tt
-  script_alike ((n, entry.Module m) ∷ ds) c ks ls = script_alike ds _ ks ls
-  script_alike ((n, entry.Lemma q bs) ∷ ds) c ks ls = script_alike ds _ ks ls
-  script_alike ((n, entry.Type t) ∷ ds) c ks ls = script_alike ds _ ks ls
-  script_alike ((n, entry.AbstractType) ∷ ds) c ks ls = script_alike ds _ ks ls
-  script_alike ((n, entry.Constant a) ∷ ds) c ks ls = script_alike ds _ ks ls
-  script_alike ((n, entry.Operator o) ∷ ds) c ks ls = script_alike ds _ ks ls
-  script_alike ((n, entry.ModuleType t) ∷ ds) c ks ls = script_alike ds _ ks ls
-  script_alike ((n, entry.AbstractOperator o) ∷ ds) c ks ls = script_alike ds _ ks ls
-  script_alike ((n, entry.Terminating p) ∷ ds) c ks ls = script_alike ds _ ks ls
+  -- without abstract modules nothing has to be alike
+  pub script_alike : (ds : scope.Declarations) → declared_modules (declared ds) ≡ [] → (c : Context) (ks ls : linked.Modules X) → AreAbstractAlike c (declared ds) ks ls
+  script_alike [] e c ks ls = tt
+  script_alike ((n, entry.AbstractModule b) ∷ ds) e c ks ls = cons_nil b (declared_modules (declared ds)) e
+  script_alike ((n, entry.Module m) ∷ ds) e c ks ls = script_alike ds e _ ks ls
+  script_alike ((n, entry.Lemma q bs) ∷ ds) e c ks ls = script_alike ds e _ ks ls
+  script_alike ((n, entry.Type t) ∷ ds) e c ks ls = script_alike ds e _ ks ls
+  script_alike ((n, entry.AbstractType) ∷ ds) e c ks ls = script_alike ds e _ ks ls
+  script_alike ((n, entry.Constant a) ∷ ds) e c ks ls = script_alike ds e _ ks ls
+  script_alike ((n, entry.Operator o) ∷ ds) e c ks ls = script_alike ds e _ ks ls
+  script_alike ((n, entry.ModuleType t) ∷ ds) e c ks ls = script_alike ds e _ ks ls
+  script_alike ((n, entry.AbstractOperator o) ∷ ds) e c ks ls = script_alike ds e _ ks ls
+  script_alike ((n, entry.Terminating p) ∷ ds) e c ks ls = script_alike ds e _ ks ls
+
+  -- what is so of the abstract modules of declarations is so of those of the first ones
+  pub alike_front : (ds es : Declarations) (c : Context) (ks ls : linked.Modules X) → AreAbstractAlike c (ds ++ es) ks ls → AreAbstractAlike c ds ks ls
+  alike_front [] es c ks ls a = tt
+  alike_front ((n, abstract_module b) ∷ ds) es c ks ls a = (a.0, alike_front ds es (with_declared c n (abstract_module b)) ks ls a.1)
+  alike_front ((n, abstract_type) ∷ ds) es c ks ls a = alike_front ds es (with_declared c n abstract_type) ks ls a
+  alike_front ((n, abbreviation x) ∷ ds) es c ks ls a = alike_front ds es (with_declared c n (abbreviation x)) ks ls a
+  alike_front ((n, operator o) ∷ ds) es c ks ls a = alike_front ds es (with_declared c n (operator o)) ks ls a
+  alike_front ((n, abstract_operator o) ∷ ds) es c ks ls a = alike_front ds es (with_declared c n (abstract_operator o)) ks ls a
+  alike_front ((n, module_type t) ∷ ds) es c ks ls a = alike_front ds es (with_declared c n (module_type t)) ks ls a
+  alike_front ((n, concrete_module m) ∷ ds) es c ks ls a = alike_front ds es (with_declared c n (concrete_module m)) ks ls a
+  alike_front ((n, axiom_of q) ∷ ds) es c ks ls a = alike_front ds es (with_declared c n (axiom_of q)) ks ls a
+  alike_front ((n, lemma q) ∷ ds) es c ks ls a = alike_front ds es (with_declared c n (lemma q)) ks ls a
+  alike_front ((n, terminating f) ∷ ds) es c ks ls a = alike_front ds es (with_declared c n (terminating f)) ks ls a

@@ -203,8 +203,12 @@ module _ (all : Declarations) (i : Interpretation) where
     ends : AreAbstractAlike nothing all base base × Signed (context_of all)
     ends = footprints_alike all [] nothing refl scoped none_agree (λ n t e. absurd (none-some t e)) chosen.chosen
 
+    -- abstract modules touch the same for arguments that are alike
+    pub touched_alike : AreAbstractAlike nothing all base base
+    touched_alike = ends.0
+
     pub touched_closed : AreClosed (context_of all).modules (footprints all i.programs)
-    touched_closed = scope_closed footprint_read footprint-looks all scoped base ends.0 (footprints all i.programs) (λ k j e. touched_is all i.programs chosen.unchosen k)
+    touched_closed = scope_closed footprint_read footprint-looks all scoped base touched_alike (footprints all i.programs) (λ k j e. touched_is all i.programs chosen.unchosen k)
 
     binders_closed : (bs : List Bind) (c : Context) → settings.Agree all c.modules.types → Signed c → AreClosed c.modules (footprints all i.programs) → AreBinders c bs → AreChosen all i bs →
         AreClosed (with_modules c bs).modules (footprints all i.programs)

@@ -11,7 +11,7 @@ use Rattle.gb_holds.specs.Modules.{Applied, Reading, found, no_module, procedure
 use Rattle.gb_holds.specs.Modules as linked
 use Rattle.gb_holds.specs.Naming.{IsFreshAmong}
 use Rattle.gb_holds.proofs.Procedures.{in_module}
-use Rattle.gb_typing.specs.Alike.{LooksAtCalls, StandAlike, AreAllAlike}
+use Rattle.gb_typing.specs.Alike.{LooksAtCalls, StandAlike, AreAbstractAlike, AreAllAlike}
 use Rattle.gb_typing.specs.Context.{Context}
 use Rattle.gb_typing.specs.Modules.{Interface}
 use Rattle.gb_typing.specs.Programs.{IsProcedure, locals_of}
@@ -22,9 +22,10 @@ use Rattle.gb_typing.proofs.Interfaces.{same_name, same_some}
 use Rattle.gb_typing.proofs.Known.{modules_before, modules_here, typed_before, typed_here}
 use Rattle.gb_typing.proofs.Standing.{Among, among, Standing, standing, declared_place, with_earlier, earlier_is}
 use Rattle.gb_typing.proofs.ReadingsAlike.{own_alike}
-use Rattle.gb_typing.proofs.ScopesAlike.{scope_closed, script_alike}
+use Rattle.gb_typing.proofs.ScopesAlike.{scope_closed, alike_front}
 
-module _ {X : Type 0} (read : Reading X) (looks : LooksAtCalls read) (base : linked.Modules X) (ds : scope.Declarations) (scoped : IsTypedScope (declared ds)) (n f : Name) (p : Proc) (e : proc_in (module_of ds n) f ≡ Some p) where
+module _ {X : Type 0} (read : Reading X) (looks : LooksAtCalls read) (base : linked.Modules X) (ds : scope.Declarations) (scoped : IsTypedScope (declared ds)) (abstract : AreAbstractAlike nothing (declared ds) base base) (n f : Name) (p : Proc)
+    (e : proc_in (module_of ds n) f ≡ Some p) where
   abbrev l : Standing ds n f p
   l = standing ds n f p e
 
@@ -78,7 +79,7 @@ module _ {X : Type 0} (read : Reading X) (looks : LooksAtCalls read) (base : lin
   seen = with_earlier c n l.found (procedure_types a.front)
 
   closed : AreAllAlike c.modules env env
-  closed = scope_closed read looks before (typed_before before after n l.found whole) base (script_alike l.front nothing base base) env (λ k i h. refl)
+  closed = scope_closed read looks before (typed_before before after n l.found whole) base (alike_front before ((n, concrete_module l.found) ∷ after) nothing base base (subst (λ z. AreAbstractAlike nothing z base base) place abstract)) env (λ k i h. refl)
 
   mine : StandAlike own earlier (module_read read env l.found)
   mine = own_alike read looks c l.found env env closed (let w = here in w.procs) a.front (p ∷ a.after) a.place

@@ -13,6 +13,7 @@ ghost use Rattle.gb_meaning.specs.Values.{World};
 ghost use Rattle.gb_holds.specs.Adversary.{Adversary, with_oracles, abstract_footprint};
 ghost use Rattle.gb_holds.specs.Declared.{Declarations, ModuleType, declared};
 ghost use Rattle.gb_holds.specs.Footprints.{footprint_read};
+ghost use Rattle.gb_holds.specs.Holds.{declared_modules};
 ghost use Rattle.gb_holds.specs.Linking.{linked_procedure};
 ghost use Rattle.gb_holds.specs.Modules.{Procedures, Functor, Reading, closed, argument, module_at, procedure_at, no_module, with_procedures, module_read, modules_of};
 ghost use Rattle.gb_holds.specs.Modules as linked;
@@ -61,7 +62,7 @@ pub fn alike_modules<X>()
 {}
 
 /// The modules of a typed scope are alike over alike abstract modules; so each gives the same for arguments that are alike at what it
-/// lacks, also where names that the scope doesn't know stand for something else. A script has no abstract modules.
+/// lacks, also where names that the scope doesn't know stand for something else. Without abstract modules nothing is asked.
 pub fn closed_scopes<X>()
     ensures alike { (read : Reading X) → LooksAtCalls read → (ds : Declarations) → IsTypedScope ds → (ks ls : linked.Modules X) →
         AreAbstractAlike nothing ds ks ls → AreAllAlike (context_of ds).modules (modules_of read ks ds) (modules_of read ls ds) }
@@ -70,7 +71,7 @@ pub fn closed_scopes<X>()
         ((k : Name) (i : Interface) → (context_of ds).modules.interfaces k ≡ Some i → final k ≡ modules_of read base ds k) →
         AreClosed (context_of ds).modules final }
     ensures scripts { (read : Reading X) → LooksAtCalls read → (ds : scope.Declarations) → IsTypedScope (declared ds) →
-        (base final : linked.Modules X) →
+        declared_modules (declared ds) ≡ [] → (base final : linked.Modules X) →
         ((k : Name) (i : Interface) → (context_of (declared ds)).modules.interfaces k ≡ Some i →
         final k ≡ modules_of read base (declared ds) k) →
         AreClosed (context_of (declared ds)).modules final }
@@ -91,8 +92,9 @@ pub fn closed_settings()
     ensures programs { (g : Setting) (ds : Declarations) (types : Name → Option ModuleType) (t : ModuleType) → SameParams ds types t.params →
         (w : World) (a : Adversary) → IsProgramFor ds g w t a →
         StandAlike (of_functor_type (functor_type types (Some t))) (with_oracles t a) (with_oracles t a) }
-    ensures scripts { (ds : scope.Declarations) → IsTypedScope (declared ds) → (g : Setting) (cs : List Chosen) →
-        AreUnchosen cs (declared ds) → AreClosed (context_of (declared ds)).modules (linked_modules (declared ds) g cs) }
+    ensures scripts { (ds : scope.Declarations) → IsTypedScope (declared ds) → declared_modules (declared ds) ≡ [] →
+        (g : Setting) (cs : List Chosen) → AreUnchosen cs (declared ds) →
+        AreClosed (context_of (declared ds)).modules (linked_modules (declared ds) g cs) }
     ensures scopes { (ds : Declarations) → IsTypedScope ds → (i : Interpretation) → IsChosenOver ds i →
         AreClosed (context_of ds).modules (linked_modules ds (with_operators i.table (bare (types_of ds i) i.table) ds) i.programs) }
     ensures goals { (ds : Declarations) → IsTypedScope ds → (i : Interpretation) → IsChosenOver ds i →
@@ -106,8 +108,8 @@ pub fn closed_footprints()
     ensures abstract_modules { (ds : Declarations) (types : Name → Option ModuleType) (t : ModuleType) → SameParams ds types t.params →
         NameSigned ds t t.signatures → (a : Name) →
         StandAlike (of_functor_type (functor_type types (Some t))) (abstract_footprint ds a t) (abstract_footprint ds a t) }
-    ensures scripts { (ds : scope.Declarations) → IsTypedScope (declared ds) → (cs : List Chosen) → AreUnchosen cs (declared ds) →
-        AreClosed (context_of (declared ds)).modules (footprints (declared ds) cs) }
+    ensures scripts { (ds : scope.Declarations) → IsTypedScope (declared ds) → declared_modules (declared ds) ≡ [] →
+        (cs : List Chosen) → AreUnchosen cs (declared ds) → AreClosed (context_of (declared ds)).modules (footprints (declared ds) cs) }
     ensures scopes { (ds : Declarations) → IsTypedScope ds → (i : Interpretation) → IsChosenOver ds i →
         AreClosed (context_of ds).modules (footprints ds i.programs) }
     ensures goals { (ds : Declarations) → IsTypedScope ds → (i : Interpretation) → IsChosenOver ds i →

@@ -4,6 +4,7 @@
 
 pub mod added_laws;
 pub mod alike_laws;
+pub mod binder_laws;
 pub mod call_laws;
 pub mod change_laws;
 pub mod clash_laws;

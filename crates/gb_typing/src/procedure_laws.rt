@@ -1,8 +1,9 @@
 //! The concrete procedures of a script.
 
 ghost use Rattle.std.specs.Option.{option_map};
-ghost use Rattle.std.specs.Prelude.{◌≡◌, List, Some};
+ghost use Rattle.std.specs.Prelude.{◌≡◌, List, [], None, Some};
 ghost use Rattle.gb_goal.specs.declared.sequent.Sequent.{Sequent};
+ghost use Rattle.gb_goal.specs.Interfaces.{procedure_type};
 ghost use Rattle.gb_goal.specs.Scope.{Declarations, module_of, proc_in, procedure_of};
 ghost use Rattle.gb_terms.specs.declared.decl.Proc.{Proc};
 ghost use Rattle.gb_terms.specs.declared.decl.TypedName.{TypedName};
@@ -13,16 +14,17 @@ ghost use Rattle.gb_meaning.specs.Commands.{statements};
 ghost use Rattle.gb_meaning.specs.Program.Routine.{routine};
 ghost use Rattle.gb_holds.specs.Declared as holds;
 ghost use Rattle.gb_holds.specs.Declared.{declared};
+ghost use Rattle.gb_holds.specs.Holds.{declared_modules};
 ghost use Rattle.gb_holds.specs.Modules.{Reading, procedure_at, modules_of};
 ghost use Rattle.gb_holds.specs.Modules as linked;
 ghost use Rattle.gb_holds.specs.Naming.{EachCallOf};
 ghost use Rattle.gb_holds.specs.Settings.{Interpretation, setting};
-ghost use Rattle.gb_typing.specs.Alike.{LooksAtCalls};
-ghost use Rattle.gb_typing.specs.Chosen.{AreUnchosen};
+ghost use Rattle.gb_typing.specs.Alike.{AreAbstractAlike, LooksAtCalls};
+ghost use Rattle.gb_typing.specs.Chosen.{IsChosenOver};
 ghost use Rattle.gb_typing.specs.Context.{procedure};
 ghost use Rattle.gb_typing.specs.Modules.{ProcedureType};
 ghost use Rattle.gb_typing.specs.Programs.{IsProcedure, type_of_procedure};
-ghost use Rattle.gb_typing.specs.Scopes.{context_of, with_each, AreTypedAfter, IsTypedScope};
+ghost use Rattle.gb_typing.specs.Scopes.{nothing, context_of, with_each, AreTypedAfter, IsTypedScope};
 ghost use Rattle.gb_typing.specs.Sequents.{AreBinders, of_sequent};
 
 /// A concrete procedure of a typed scope is typed in the context of each goal over the scope, and has its type there.
@@ -34,19 +36,22 @@ pub fn typed_procedures()
         procedure (of_sequent (context_of (declared ds)) q fs) r ≡ Some (type_of_procedure p) }
 {}
 
-/// In the context of a typed scope a reference to a procedure has a type where it means a declared procedure, namely that procedure's, and
-/// nowhere else. So what a declared procedure calls is declared.
+/// In the context of a typed scope a reference to a procedure has the type that is known by declarations, and none where none is known. So
+/// what a declared procedure calls has a type. Without abstract modules it has one where it means a declared procedure, namely that
+/// procedure's, and nowhere else.
 pub fn known_procedures()
     ensures types { (ds : Declarations) → IsTypedScope (declared ds) → (r : ProcRef) →
-        procedure (context_of (declared ds)) r ≡ option_map type_of_procedure (procedure_of ds r) }
+        procedure (context_of (declared ds)) r ≡ procedure_type ds None r }
     ensures calls { (ds : Declarations) → IsTypedScope (declared ds) → (r : ProcRef) (p : Proc) → procedure_of ds r ≡ Some p →
-        EachCallOf (λ q. (f : Proc) × (procedure_of ds q ≡ Some f)) p.body.list }
+        EachCallOf (λ q. (t : ProcedureType) × (procedure_type ds None q ≡ Some t)) p.body.list }
+    ensures declared { (ds : Declarations) → IsTypedScope (declared ds) → declared_modules (declared ds) ≡ [] → (r : ProcRef) →
+        procedure (context_of (declared ds)) r ≡ option_map type_of_procedure (procedure_of ds r) }
 {}
 
-/// In a setting of a typed scope, where no chosen program hides a declared module, a concrete procedure is its body, in which each call
-/// carries what it names in the setting.
+/// In a setting of a typed scope, where programs of their types are chosen for abstract modules and none hides a declared module, a concrete
+/// procedure is its body, in which each call carries what it names in the setting.
 pub fn linked_procedures()
-    ensures { (ds : Declarations) → IsTypedScope (declared ds) → (i : Interpretation) → AreUnchosen i.programs (declared ds) →
+    ensures { (ds : Declarations) → IsTypedScope (declared ds) → (i : Interpretation) → IsChosenOver (declared ds) i →
         (r : ProcRef) (p : Proc) → procedure_of ds r ≡ Some p →
         (setting (declared ds) i).procedure r ≡ Some (routine p.params p.locals (statements (setting (declared ds) i) p.body.list) p.value) }
 {}
@@ -61,9 +66,10 @@ pub fn growing_contexts()
 {}
 
 /// A procedure of a module without parameters is read where each call in it means what it means in the whole scope, also where its module
-/// is given to another one.
+/// is given to another one. Abstract modules give the same for arguments that are alike.
 pub fn whole_readings<X>()
     ensures { (read : Reading X) → LooksAtCalls read → (base : linked.Modules X) → (ds : Declarations) → IsTypedScope (declared ds) →
+        AreAbstractAlike nothing (declared ds) base base →
         (n f : Name) (p : Proc) → proc_in (module_of ds n) f ≡ Some p →
         procedure_at (modules_of read base (declared ds)) (record { «module» = named n; name = f }) ≡
         Some (read (procedure_at (modules_of read base (declared ds))) p) }

@@ -14,28 +14,29 @@ ghost use Rattle.gb_holds.specs.Declared.{Declarations, declared, module_named};
 ghost use Rattle.gb_holds.specs.Footprints.{footprint_read};
 ghost use Rattle.gb_holds.specs.Modules.{Modules, Reading, modules_of, procedure_at};
 ghost use Rattle.gb_holds.specs.Settings.{Interpretation, footprints, setting};
-ghost use Rattle.gb_typing.specs.Chosen.{AreChosen, AreUnchosen, IsChosenOver};
+ghost use Rattle.gb_typing.specs.Chosen.{AreChosen, IsChosenOver};
 ghost use Rattle.gb_typing.specs.Context.{procedure};
 ghost use Rattle.gb_typing.specs.Modules.{ProcedureType};
-ghost use Rattle.gb_typing.specs.Scopes.{context_of, IsTypedScope};
+ghost use Rattle.gb_typing.specs.Scopes.{nothing, context_of, IsTypedScope};
 ghost use Rattle.gb_typing.specs.Sequents.{AreBinders, of_sequent};
-ghost use Rattle.gb_typing.specs.Alike.{LooksAtCalls};
+ghost use Rattle.gb_typing.specs.Alike.{AreAbstractAlike, LooksAtCalls};
 ghost use Rattle.gb_typing.specs.Following.{FollowsCalls};
 ghost use Rattle.gb_goal.specs.Instances.{arguments_of, instance, name_of};
 
-/// In the scope of a script, a procedure of a declared module with arguments that fit is what its instance is, read in the modules of the
-/// whole scope.
+/// In the scope of a script, over abstract modules that give the same for arguments that are alike, a procedure of a declared module with
+/// arguments that fit is what its instance is, read in the modules of the whole scope.
 pub fn instances_in_scripts<X>()
     ensures { (read : Reading X) → LooksAtCalls read → FollowsCalls read → (ds : scope.Declarations) → IsTypedScope (declared ds) → (base : Modules X) →
+        AreAbstractAlike nothing (declared ds) base base →
         (r : ProcRef) (t : ProcedureType) → procedure (context_of (declared ds)) r ≡ Some t → (m : Module) → module_of ds (name_of r.«module») ≡ Some m →
         (p : Proc) → proc_of m.procs r.name ≡ Some p →
         procedure_at (modules_of read base (declared ds)) r ≡ Some (read (procedure_at (modules_of read base (declared ds))) (instance m.params (arguments_of r.«module») p)) }
 {}
 
-/// .. and in a setting over it, where no chosen program hides a declared module, it is the body of its instance, in which each call carries
-/// what it names in the setting.
+/// .. and in a setting over it, where programs of their types are chosen for abstract modules and none hides a declared module, it is the
+/// body of its instance, in which each call carries what it names in the setting.
 pub fn script_settings()
-    ensures { (ds : scope.Declarations) → IsTypedScope (declared ds) → (i : Interpretation) → AreUnchosen i.programs (declared ds) →
+    ensures { (ds : scope.Declarations) → IsTypedScope (declared ds) → (i : Interpretation) → IsChosenOver (declared ds) i →
         (r : ProcRef) (t : ProcedureType) → procedure (context_of (declared ds)) r ≡ Some t → (m : Module) → module_of ds (name_of r.«module») ≡ Some m →
         (p : Proc) → proc_of m.procs r.name ≡ Some p →
         let s : Proc = instance m.params (arguments_of r.«module») p in

@@ -140,7 +140,7 @@ module _ (ds : Declarations) (scope : IsTypedScope ds) (q : Sequent) (t : IsType
       let closed : IsForm (small base [] []) (generalized x.binders s) = binders_typed base x.binders [] xs [] o.frames x.all o.values s.conclusion form in
       record {
         Fact = OfLemma s;
-        always = lemma_always s o x.alone (holds s x.among);
+        always = lemma_always s o x.alone (holds s x.among o.modules);
         true_in = λ k y fits vs ms fit h j fair.
             let g = setting ds k in
             subst (λ d. Says d (generalized x.binders s) x.arguments f → IsSettingOf d g → IsStateOf d g (context vs ms) → den g j f (context vs ms) ≡ true) (sym here_small)

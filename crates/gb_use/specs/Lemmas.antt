@@ -28,9 +28,9 @@ IsLemmaIn [] s = ⊥
 IsLemmaIn ((n, lemma r) ∷ ds) s = (r ≡ s) ⊎ IsLemmaIn ds s
 IsLemmaIn (d ∷ ds) s = IsLemmaIn ds s
 
--- the lemmas of a scope hold in it
+-- The lemmas of a scope hold in it. Nothing is said of those that bind modules, which no step uses.
 abbrev pub LemmasHold : Declarations → Type 0
-LemmasHold ds = (s : Sequent) → IsLemmaIn ds s → Holds ds s
+LemmasHold ds = (s : Sequent) → IsLemmaIn ds s → s.modules ≡ [] → Holds ds s
 
 abbrev pub AreFinite : List Ty → Type 0
 AreFinite [] = Unit {0}

@@ -17,7 +17,7 @@ ghost use Rattle.gb_use.specs.Lemmas.{IsKnown, LemmasHold};
 ghost use Rattle.gb_use.specs.Uses.{IsAnswer, IsTypedStep};
 
 /// A step at the goal of a typed scope, by a form that a hypothesis of the goal or a lemma says, gives typed goals, and if each of them
-/// holds, the goal holds, where the lemmas of the scope do.
+/// holds, the goal holds, where the lemmas of the scope do that bind no modules.
 pub fn sound_uses()
     ensures { (ds : Declarations) → IsTypedScope ds → LemmasHold ds → (q : Sequent) (t : IsTypedSequent (context_of ds) q) → (r : UseRule) →
         IsTypedStep ds q (of_sequent (context_of ds) q t.frames) r → (place : Place) (qs : List Sequent) → IsAnswer r place q (given qs) →
@@ -25,7 +25,7 @@ pub fn sound_uses()
 {}
 
 /// A typed form that a hypothesis of a typed goal or a lemma says of terms holds where it is concluded from the goal's hypotheses, where
-/// the lemmas of the scope do.
+/// the lemmas of the scope do that bind no modules.
 pub fn instances_hold()
     ensures { (ds : Declarations) → IsTypedScope ds → LemmasHold ds → (q : Sequent) (t : IsTypedSequent (context_of ds) q) → (f : Term) →
         IsForm (of_sequent (context_of ds) q t.frames) f → IsKnown ds q (of_sequent (context_of ds) q t.frames) f →

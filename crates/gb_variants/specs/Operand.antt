@@ -1,5 +1,5 @@
 -- The procedure whose loops `termination` is about.
-use Rattle.std.specs.Prelude.{List, [], ◌∷◌, None}
+use Rattle.std.specs.Prelude.{List, ◌∷◌, None}
 use Rattle.gb_core.specs.declared.place.Place.{Place}
 use Rattle.gb_terms.specs.declared.decl.Proc.{Proc}
 use Rattle.gb_goal.specs.Answers.{Answer, ◌>>=◌, given_or, not_built}

@@ -8,11 +8,14 @@ returns c =
       typing = record {
         entries_added = c.entries.ensures.added;
         others = c.entries.ensures.others;
+        entries_firm = c.entries.ensures.firm;
         entries_speak = c.entries.ensures.speaks;
         module_speaks = c.modules.ensures.speaks;
         procedures = c.statements.ensures.procedures;
         module_added = c.modules.ensures.added;
         statement = c.statements.ensures.typed;
+        statement_scope = c.statements.ensures.scope;
+        statement_goal = c.statements.ensures.goal;
         free = c.statements.ensures.free;
         lemma_added = c.lemmas.ensures;
         body_rule = c.typed_rules.ensures.bodies;
@@ -73,6 +76,8 @@ returns c =
         coupled = c.equivalences_give_couplings.ensures.coupled;
         stay = c.goals_stay.ensures.scripts;
         stay_typed = c.goals_stay_typed.ensures;
+        stay_seen = c.goals_stay.ensures.binders;
+        without_declared = c.declared_modules.ensures;
         parts = c.parts_of_scopes.ensures;
       };
     } in

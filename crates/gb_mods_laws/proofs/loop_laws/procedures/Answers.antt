@@ -8,4 +8,4 @@ use Rattle.gb_mods_laws.proofs.loop_laws.procedures.Goals as goal
 pub returns : goal.returns
 returns x = λ ds scoped g over test ended p e.
     procedure_ends g (λ q. test q ≡ true) ds
-    (λ q a k. subst (λ h. h.procedure q ≡ Some (routine a.params a.locals (statements h a.body.list) a.value)) (sym over.meant) (linked_there ds scoped over.interpretation (let y = over.chosen in y.unchosen) q a k)) ended p e
+    (λ q a k. subst (λ h. h.procedure q ≡ Some (routine a.params a.locals (statements h a.body.list) a.value)) (sym over.meant) (linked_there ds scoped over.interpretation over.chosen q a k)) ended p e

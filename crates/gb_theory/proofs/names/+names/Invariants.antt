@@ -6,4 +6,4 @@ use Rattle.gb_theory.proofs.names.+names.Given as goal
 
 abbrev pub invariant-all_added-loop-pattern : goal.invariant-all_added-loop-pattern
 invariant-all_added-loop-pattern l =
-    all_added (each_adds l.goal (drop l.pattern-index l.patterns)) l.used l.names ≡ all_added (each_adds l.goal l.patterns) l.used []
+    all_added (each_adds l.scope l.goal (drop l.pattern-index l.patterns)) l.used l.names ≡ all_added (each_adds l.scope l.goal l.patterns) l.used []
