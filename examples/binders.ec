@@ -82,3 +82,31 @@ proof. proc. rnd. skip. smt(). qed.
 lemma at_most (P <: Player {-Mask}) (O <: Oracle) &m :
   Pr[Game(P).main() @ &m : res = Mask.key] <= 1%r /\ 0%r <= Pr[P(O).run() @ &m : res = 0].
 proof. split. rewrite Pr[mu_le1]. rewrite Pr[mu_ge0]. qed.
+
+(* What a guesser may touch is known: all that is its own, and nothing of the modules that it leaves alone. It loses no weight. *)
+module Log = { var seen : bool }.
+
+module Watch (A : Guesser) = {
+  proc early(c : bits 4) : bits 4 = { var g : bits 4; Log.seen <- true; g <@ A.guess(c); return g; }
+  proc late(c : bits 4) : bits 4 = { var g : bits 4; g <@ A.guess(c); Log.seen <- true; return g; }
+  proc blind() : bool = { var g, k : bits 4; g <@ A.guess(0); k <$ uniform (bits 4); return g = k; }
+}.
+
+(* So it makes no difference when the log is written. Without {-Log} the swap is refused: A may read it. *)
+lemma logged (A <: Guesser {-Log}) (x : bits 4) &m :
+  Pr[Watch(A).early(x) @ &m : res = 0 /\ Log.seen] = Pr[Watch(A).late(x) @ &m : res = 0 /\ Log.seen].
+proof.
+byequiv (_ : ={c, glob A} ==> ={res, glob A, Log.seen}).
+proc. swap{1} 1 1. sim. smt().
+smt().
+smt().
+qed.
+
+(* Whatever is guessed before the key is drawn, it is the key once in sixteen times. *)
+lemma blind (A <: Guesser) : phoare [Watch(A).blind : true ==> res] = 1%r / 16%r.
+proof.
+proc. rnd.
+conseq (_ : _ ==> true). smt(). smt().
+kill 1.            (* nothing is read any more of what A does *)
+skip. smt().
+qed.

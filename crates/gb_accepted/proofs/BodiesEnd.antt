@@ -25,6 +25,8 @@ use Rattle.gb_goal.specs.Goal.Code.{body, procedure}
 use Rattle.gb_goal.specs.Goal.Goal.{hoare, phoare, equiv, ambient}
 use Rattle.gb_goal.specs.Rows.{refusing}
 use Rattle.gb_goal.specs.Scope.{Declarations, procedure_of}
+use Rattle.gb_walk.specs.Clash.{Exclusions}
+use Rattle.gb_mods.specs.Exclusions.{exclusions}
 use Rattle.gb_holds.specs.Declared.{declared}
 use Rattle.gb_steps.specs.declared.step.Acts.{Acts}
 use Rattle.gb_steps.specs.declared.step.Acts.TheVariants as on
@@ -190,23 +192,23 @@ module _ (g : Setting) where
   front_ends : (is : List Instr) → Good is → Good (front is)
   front_ends is h = (cut_ends _ is h).0
 
-  wp_ends : (Gs : List Goal) (o : OneBody) → wp_one o ≡ given Gs → Around o → AllByRecursion (LoopsEnd g) Gs
-  wp_ends Gs o e k =
-      let z = given_bind (before_all o.side (ending o.list) o.post) _ Gs e in
+  wp_ends : (ex : Exclusions) (Gs : List Goal) (o : OneBody) → wp_one ex o ≡ given Gs → Around o → AllByRecursion (LoopsEnd g) Gs
+  wp_ends ex Gs o e k =
+      let z = given_bind (before_all ex o.side (ending o.list) o.post) _ Gs e in
       subst (AllByRecursion (LoopsEnd g)) (same_given _ Gs z.2) (k.goal (front o.list) o.pre z.0 (front_ends o.list k.list), tt)
 
-  wp_both_ends : (a : Acts) (G : Goal) (Gs : List Goal) → wp_both a G ≡ given Gs → Leads Gs G
-  wp_both_ends on.All (equiv (body is) (body js) p q) Gs e =
-      let y = given_bind (before_all Left (ending is) q) _ Gs e in
-      let z = given_bind (before_all Right (ending js) y.0) _ Gs y.2 in
+  wp_both_ends : (ex : Exclusions) (a : Acts) (G : Goal) (Gs : List Goal) → wp_both ex a G ≡ given Gs → Leads Gs G
+  wp_both_ends ex on.All (equiv (body is) (body js) p q) Gs e =
+      let y = given_bind (before_all ex Left (ending is) q) _ Gs e in
+      let z = given_bind (before_all ex Right (ending js) y.0) _ Gs y.2 in
       subst (λ Gs. Leads Gs (equiv (body is) (body js) p q)) (same_given _ Gs z.2) (λ h. ((front_ends is h.0, front_ends js h.1), tt))
-  wp_both_ends on.All (equiv (procedure a) b p q) Gs e = refused_given Shape Gs e
-  wp_both_ends on.All (equiv (body is) (procedure b) p q) Gs e = refused_given Shape Gs e
-  wp_both_ends on.All (hoare a p q) Gs e = refused_given Shape Gs e
-  wp_both_ends on.All (phoare a r p q b) Gs e = refused_given Shape Gs e
-  wp_both_ends on.All (ambient f) Gs e = refused_given Shape Gs e
-  wp_both_ends on.Left G Gs e = refused_given Shape Gs e
-  wp_both_ends on.Right G Gs e = refused_given Shape Gs e
+  wp_both_ends ex on.All (equiv (procedure a) b p q) Gs e = refused_given Shape Gs e
+  wp_both_ends ex on.All (equiv (body is) (procedure b) p q) Gs e = refused_given Shape Gs e
+  wp_both_ends ex on.All (hoare a p q) Gs e = refused_given Shape Gs e
+  wp_both_ends ex on.All (phoare a r p q b) Gs e = refused_given Shape Gs e
+  wp_both_ends ex on.All (ambient f) Gs e = refused_given Shape Gs e
+  wp_both_ends ex on.Left G Gs e = refused_given Shape Gs e
+  wp_both_ends ex on.Right G Gs e = refused_given Shape Gs e
 
   -- Other conditions.
 
@@ -259,7 +261,7 @@ bodies_end ds scoped (OnBodies rule.Proc) G Gs e g over n h = proc_ends g ds G G
 bodies_end ds scoped (OnBodies rule.Skip) G Gs e g over n h = skip_ends g G Gs e
 bodies_end ds scoped (OnBodies (rule.Seq k r)) G Gs e g over n h = seq_ends g k r G Gs e h
 bodies_end ds scoped (OnBodies (rule.If a)) G Gs e g over n h = by_one g (λ o. of_one (λ is p. o.goal is p o.post) o.side o.pre (first_branch o.list)) (if_both a G) G Gs (if_ends g Gs) (both_ends g a G Gs) a e h
-bodies_end ds scoped (OnBodies (rule.Wp a)) G Gs e g over n h = by_one g wp_one (wp_both a G) G Gs (wp_ends g Gs) (wp_both_ends g a G Gs) a e h
+bodies_end ds scoped (OnBodies (rule.Wp a)) G Gs e g over n h = by_one g (wp_one (exclusions ds)) (wp_both (exclusions ds) a G) G Gs (wp_ends g (exclusions ds) Gs) (wp_both_ends g (exclusions ds) a G Gs) a e h
 bodies_end ds scoped (OnBodies (rule.Case f)) G Gs e g over n h =
     by_one g (case_one f) (on_one (case_one f) (one_body on.Left G) (refusing Shape)) G Gs (case_ends g f Gs) (by_one g (case_one f) (refusing Shape) G Gs (case_ends g f Gs) (λ e. refused_given Shape Gs e) on.Left) on.All e h
 bodies_end ds scoped (OnBodies (rule.Conseq w)) G Gs e g over n h = conseq_ends g w G Gs e h

@@ -20,6 +20,7 @@ use Rattle.gb_goal.specs.Goal.Code.{body, procedure}
 use Rattle.gb_goal.specs.Goal.Goal.{hoare, phoare, equiv, ambient}
 use Rattle.gb_goal.specs.Rows.{refusing}
 use Rattle.gb_goal.specs.Scope.{Declarations, procedure_of}
+use Rattle.gb_mods.specs.Exclusions.{exclusions}
 use Rattle.gb_holds.specs.Declared.{declared}
 use Rattle.gb_holds.specs.Holds.{LoopsAreGood}
 use Rattle.gb_mods.specs.Written.{written}
@@ -150,25 +151,25 @@ module _ (ds : Declarations) where
       by_one ls is p q w Gs None k e = refused_given Shape Gs e
       by_one ls is p q w Gs (Some x) k e =
           λ h. of_globals x p q Gs (with_types ds (left_of Own x s q))
-          (unclashing (clash_after Own (let l = x.call in l.targets) x.written s.post q) (by_globals x s p q (with_types ds (left_of Own x s q))) Gs
-          (few (let l = x.call in l.targets) (unless_clash (clash_after Own (let l = x.call in l.targets) x.written s.post q) (by_globals x s p q (with_types ds (left_of Own x s q)))) Gs e))
+          (unclashing (clash_after (exclusions ds) Own (let l = x.call in l.targets) x.written s.post q) (by_globals x s p q (with_types ds (left_of Own x s q))) Gs
+          (few (let l = x.call in l.targets) (unless_clash (clash_after (exclusions ds) Own (let l = x.call in l.targets) x.written s.post q) (by_globals x s p q (with_types ds (left_of Own x s q)))) Gs e))
           (called_ends ls is w x k h)
 
       by_chance : (ls : List TypedName) (is : List Instr) (r : Rel) (p q b : Term) → IsBody c ls is → (Gs : List Goal) (o : Option Callee) → callee_of ds (last_call is) ≡ o → chances_of_callee ds s r p q b o ≡ given Gs → Leads Gs (Good is)
       by_chance ls is r p q b w Gs None k e = refused_given Shape Gs e
       by_chance ls is r p q b w Gs (Some x) k e =
           λ h. chance_of_globals x r p q b Gs (with_types ds (left_of Own x s q))
-          (unclashing (clash_after Own (let l = x.call in l.targets) x.written s.post q) (chances_by_globals ds x s r p q b (with_types ds (left_of Own x s q))) Gs
-          (few (let l = x.call in l.targets) (unless_clash (clash_after Own (let l = x.call in l.targets) x.written s.post q) (chances_by_globals ds x s r p q b (with_types ds (left_of Own x s q)))) Gs e))
+          (unclashing (clash_after (exclusions ds) Own (let l = x.call in l.targets) x.written s.post q) (chances_by_globals ds x s r p q b (with_types ds (left_of Own x s q))) Gs
+          (few (let l = x.call in l.targets) (unless_clash (clash_after (exclusions ds) Own (let l = x.call in l.targets) x.written s.post q) (chances_by_globals ds x s r p q b (with_types ds (left_of Own x s q)))) Gs e))
           (called_ends ls is w x k h)
 
       by_two : (ls rs : List TypedName) (is js : List Instr) (p q : Term) → IsBody c ls is → IsBody c rs js → (Gs : List Goal) (o u : Option Callee) → callee_of ds (last_call is) ≡ o → callee_of ds (last_call js) ≡ u →
           of_callees ds s p q o u ≡ given Gs → Leads Gs (Good is × Good js)
       by_two ls rs is js p q w v Gs (Some x) (Some y) k l e =
           let globals = by_both_globals x y s p q (with_types ds (left_of Left x s q)) (with_types ds (left_of Right y s q)) in
-          let clear = unless_clash (clash_after_both x y s q) globals in
+          let clear = unless_clash (clash_after_both (exclusions ds) x y s q) globals in
           λ h. both_of_globals x y p q Gs (with_types ds (left_of Left x s q)) (with_types ds (left_of Right y s q))
-          (unclashing (clash_after_both x y s q) globals Gs (few (let z = y.call in z.targets) clear Gs (few (let z = x.call in z.targets) (if_few (let z = y.call in z.targets) clear) Gs e)))
+          (unclashing (clash_after_both (exclusions ds) x y s q) globals Gs (few (let z = y.call in z.targets) clear Gs (few (let z = x.call in z.targets) (if_few (let z = y.call in z.targets) clear) Gs e)))
           (called_ends ls is w x k h.0, called_ends rs js v y l h.1)
       by_two ls rs is js p q w v Gs None u k l e = refused_given Shape Gs e
       by_two ls rs is js p q w v Gs (Some x) None k l e = refused_given Shape Gs e

@@ -15,6 +15,7 @@ use Rattle.gb_goal.specs.Goal.{Code, Goal}
 use Rattle.gb_goal.specs.Goal.Code.{body, procedure}
 use Rattle.gb_goal.specs.Goal.Goal.{hoare, phoare, equiv, ambient}
 use Rattle.gb_goal.specs.Scope.{Declarations}
+use Rattle.gb_mods.specs.Exclusions.{exclusions}
 use Rattle.gb_holds.specs.Declared.{declared}
 use Rattle.gb_steps.specs.declared.step.Rule.{Rule}
 use Rattle.gb_steps.specs.declared.step.Rule.TheVariants.{OnBodies, Relational, Chance, Probability, Call, CallKnown, While, Transform, Ambient, Use, Rewrite, Smt, Linear}
@@ -51,7 +52,7 @@ module _ (g : Setting) where
   module _ (ds : Declarations) (c : Context) (ls rs : List TypedName) where
     by_sampling : (is : List Instr) (r : Rel) (p q b : Term) → IsBody c ls is → (Gs : List Goal) (o : Option Sampling) → last_sampling is ≡ o → by_end ds r p q b o ≡ given Gs → Leads Gs (phoare (body is) r p q b)
     by_sampling is r p q b w Gs None k e = refused_given Shape Gs e
-    by_sampling is r p q b w Gs (Some x) k e = by_clash (clashing Own x.target q) e
+    by_sampling is r p q b w Gs (Some x) k e = by_clash (clashing (exclusions ds) Own x.target q) e
       where
         by_clash : (o : Option Var) → unless_clash o (of_rest (first_loss ds x.before) r b (without_sampling x r p q b)) ≡ given Gs → Leads Gs (phoare (body is) r p q b)
         by_clash None e = rest_ends (first_loss ds x.before) r b (without_sampling x r p q b) (phoare (body is) r p q b) Gs e (sampled_ends g c ls is x w k)

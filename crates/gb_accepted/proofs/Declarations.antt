@@ -111,7 +111,7 @@ opens_keeps o s t name place next g same e =
     let c = given_bind (within (declaration_limit (declarations_in s.scope)) place) _ next b.2 in
     let d = given_bind (within (each_limit (b.0 ∷ [])) place) _ next c.2 in
     let q = b.0 in
-    let procedures = o.typing.procedures s.scope g.typed t q b.1 in
+    let procedures = o.typing.procedures s.scope g.typed g.firm t q b.1 in
     let goal = o.typing.statement_goal s.scope g.typed t q b.1 in
     subst IsGood (given_is _ _ d.2) (record {
       typed = g.typed;

@@ -102,7 +102,7 @@ pub record OfTyping : Type 0 where
   pub entries_firm : (ds : scope.Declarations) → IsTyped ds → (t : Node) (added : scope.Declarations) → entries_given ds t ≡ given added → IsFirmScope added
   pub entries_speak : (ds : scope.Declarations) → IsTyped ds → (t : Node) (added : scope.Declarations) → entries_given ds t ≡ given added → ScopeSpeaks NoName (declared added)
   pub module_speaks : (ds : scope.Declarations) → IsTyped ds → (t : Node) (m : Module) → module_given ds t ≡ given m → DeclarationSpeaks NoName (concrete_module m)
-  pub procedures : (ds : scope.Declarations) → IsTyped ds → (t : Node) (q : Sequent) → statement_given ds t ≡ given q → IsOfProcedures q
+  pub procedures : (ds : scope.Declarations) → IsTyped ds → IsFirmScope ds → (t : Node) (q : Sequent) → statement_given ds t ≡ given q → IsOfProcedures q
   pub module_added : (ds : scope.Declarations) → IsTyped ds → (t : Node) (m : Module) → module_given ds t ≡ given m → IsTyped (ds ++ (m.name, entry.Module m) ∷ [])
   pub statement : (ds : scope.Declarations) → IsTyped ds → (t : Node) (q : Sequent) → statement_given ds t ≡ given q → IsTypedGoalOf ds q
   pub statement_scope : (ds : scope.Declarations) → IsTyped ds → (t : Node) (q : Sequent) → statement_given ds t ≡ given q → IsTyped (seen ds q.modules)

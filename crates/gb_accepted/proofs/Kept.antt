@@ -11,7 +11,7 @@ use Rattle.gb_goal.specs.declared.sequent.Sequent.{Sequent}
 use Rattle.gb_holds.specs.Declared.{declared}
 use Rattle.gb_holds.specs.Holds.{Holds, IsSound}
 use Rattle.gb_typing.specs.Naming.{NoName}
-use Rattle.gb_models.specs.Speaking.{IsFirmScope, IsWithoutModules, ScopeSpeaks}
+use Rattle.gb_models.specs.Speaking.{GoalSpeaks, IsFirmScope, IsWithoutModules, ScopeSpeaks}
 use Rattle.gb_use.specs.Lemmas.{IsLemmaIn, LemmasHold}
 use Rattle.gb_elab_laws.specs.Procedures.{AreStated, IsOfProcedures}
 use Rattle.gb_elab_laws.proofs.Used.{lemma_in}
@@ -63,11 +63,12 @@ module _ (o : Grounds) (bs : List Bind) where
   lemma_kept before ds q w t p h plain =
       let without : IsWithoutModules q = record { modules = plain; conclusion = p.front } in
       let there = o.models.stay_typed before ds w.typed q t without in
-      let holds = o.models.stay before ds w.typed w.firm q t without w.speaks p.speaks h in
+      let speaks : GoalSpeaks NoName q = p.speaks plain in
+      let holds = o.models.stay before ds w.typed w.firm q t without w.speaks speaks h in
       record {
         typed = o.models.stay_typed (before ++ ds) (binder_entries bs) w.beside q there without;
         procedures = p;
-        holds = o.models.stay_seen (before ++ ds) bs w.beside w.firm q there without w.speaks p.speaks holds;
+        holds = o.models.stay_seen (before ++ ds) bs w.beside w.firm q there without w.speaks speaks holds;
       }
 
   kept : (ds before : Declarations) → IsWhole (before ++ ds) → AllByRecursion IsProved (lemmas_in before ds) → AllByRecursion StatesProcedures (lemmas_in before ds) → AllKept before ds

@@ -18,6 +18,8 @@ use Rattle.gb_goal.specs.Goal.Code.{body, procedure}
 use Rattle.gb_goal.specs.Goal.Goal.{hoare, phoare, equiv, ambient}
 use Rattle.gb_goal.specs.Rows.{refusing}
 use Rattle.gb_goal.specs.Scope.{Declarations}
+use Rattle.gb_walk.specs.Clash.{Exclusions}
+use Rattle.gb_mods.specs.Exclusions.{exclusions}
 use Rattle.gb_holds.specs.Declared.{declared}
 use Rattle.gb_steps.specs.declared.step.Rule.{Rule}
 use Rattle.gb_steps.specs.declared.step.Rule.TheVariants.{OnBodies, Relational, Chance, Probability, Call, CallKnown, While, Transform, Ambient, Use, Rewrite, Smt, Linear}
@@ -60,30 +62,30 @@ module _ (g : Setting) where
   by_clash (Some x) H G Gs e f = refused_given (SideCondition x) Gs e
 
   module _ (c : Context) (ls rs : List TypedName) where
-    one_sampling : (is : List Instr) (p q : Term) → IsBody c ls is → (Gs : List Goal) (o : Option Sampling) → last_sampling is ≡ o → by_end p q o ≡ given Gs → Leads Gs (hoare (body is) p q)
-    one_sampling is p q w Gs None k e = refused_given Shape Gs e
-    one_sampling is p q w Gs (Some x) k e = by_clash (clashing Own x.target q) (without_sampling x p q) (hoare (body is) p q) Gs e (sampled_ends c ls is x w k)
+    one_sampling : (ex : Exclusions) (is : List Instr) (p q : Term) → IsBody c ls is → (Gs : List Goal) (o : Option Sampling) → last_sampling is ≡ o → by_end ex p q o ≡ given Gs → Leads Gs (hoare (body is) p q)
+    one_sampling ex is p q w Gs None k e = refused_given Shape Gs e
+    one_sampling ex is p q w Gs (Some x) k e = by_clash (clashing ex Own x.target q) (without_sampling x p q) (hoare (body is) p q) Gs e (sampled_ends c ls is x w k)
 
-    two_samplings : (fs : List Term) (is js : List Instr) (p q : Term) → IsBody c ls is → IsBody c rs js → (Gs : List Goal) (x y : Option Sampling) → last_sampling is ≡ x → last_sampling js ≡ y →
-        by_ends fs p q (option_zip x y) ≡ given Gs → Leads Gs (equiv (body is) (body js) p q)
-    two_samplings fs is js p q w v Gs (Some x) (Some y) k l e = of_maps (maps fs x.ty y.ty) e
+    two_samplings : (ex : Exclusions) (fs : List Term) (is js : List Instr) (p q : Term) → IsBody c ls is → IsBody c rs js → (Gs : List Goal) (x y : Option Sampling) → last_sampling is ≡ x → last_sampling js ≡ y →
+        by_ends ex fs p q (option_zip x y) ≡ given Gs → Leads Gs (equiv (body is) (body js) p q)
+    two_samplings ex fs is js p q w v Gs (Some x) (Some y) k l e = of_maps (maps fs x.ty y.ty) e
       where
-        of_maps : (r : Option Maps) → by_maps x y p q r ≡ given Gs → Leads Gs (equiv (body is) (body js) p q)
+        of_maps : (r : Option Maps) → by_maps ex x y p q r ≡ given Gs → Leads Gs (equiv (body is) (body js) p q)
         of_maps None e = refused_given Shape Gs e
         of_maps (Some ms) e =
-            by_clash (clash_of x y q) (without_samplings x y ms p q) (equiv (body is) (body js) p q) Gs e (λ h. (sampled_ends c ls is x w k h.0, sampled_ends c rs js y v l h.1))
-    two_samplings fs is js p q w v Gs None y k l e = refused_given Shape Gs e
-    two_samplings fs is js p q w v Gs (Some x) None k l e = refused_given Shape Gs e
+            by_clash (clash_of ex x y q) (without_samplings x y ms p q) (equiv (body is) (body js) p q) Gs e (λ h. (sampled_ends c ls is x w k h.0, sampled_ends c rs js y v l h.1))
+    two_samplings ex fs is js p q w v Gs None y k l e = refused_given Shape Gs e
+    two_samplings ex fs is js p q w v Gs (Some x) None k l e = refused_given Shape Gs e
 
-    rnd_ends : (fs : List Term) (G : Goal) → IsGoalOver c ls rs G → (Gs : List Goal) → rnd_row fs G ≡ given Gs → Leads Gs G
-    rnd_ends fs (equiv (body is) (body js) p q) w Gs e = two_samplings fs is js p q w.1 w.2 Gs (last_sampling is) (last_sampling js) refl refl e
-    rnd_ends [] (hoare (body is) p q) w Gs e = one_sampling is p q w.0 Gs (last_sampling is) refl e
-    rnd_ends (f ∷ fs) (hoare a p q) w Gs e = refused_given Shape Gs e
-    rnd_ends [] (hoare (procedure a) p q) w Gs e = refused_given Shape Gs e
-    rnd_ends fs (phoare a r p q b) w Gs e = refused_given Shape Gs e
-    rnd_ends fs (equiv (procedure a) b p q) w Gs e = refused_given Shape Gs e
-    rnd_ends fs (equiv (body is) (procedure b) p q) w Gs e = refused_given Shape Gs e
-    rnd_ends fs (ambient f) w Gs e = refused_given Shape Gs e
+    rnd_ends : (ds : Declarations) (fs : List Term) (G : Goal) → IsGoalOver c ls rs G → (Gs : List Goal) → rnd_row ds fs G ≡ given Gs → Leads Gs G
+    rnd_ends ds fs (equiv (body is) (body js) p q) w Gs e = two_samplings (exclusions ds) fs is js p q w.1 w.2 Gs (last_sampling is) (last_sampling js) refl refl e
+    rnd_ends ds [] (hoare (body is) p q) w Gs e = one_sampling (exclusions ds) is p q w.0 Gs (last_sampling is) refl e
+    rnd_ends ds (f ∷ fs) (hoare a p q) w Gs e = refused_given Shape Gs e
+    rnd_ends ds [] (hoare (procedure a) p q) w Gs e = refused_given Shape Gs e
+    rnd_ends ds fs (phoare a r p q b) w Gs e = refused_given Shape Gs e
+    rnd_ends ds fs (equiv (procedure a) b p q) w Gs e = refused_given Shape Gs e
+    rnd_ends ds fs (equiv (body is) (procedure b) p q) w Gs e = refused_given Shape Gs e
+    rnd_ends ds fs (ambient f) w Gs e = refused_given Shape Gs e
 
     -- the body on which a rule acts is typed
     body_typed : (a : Acts) (G : Goal) (o : OneBody) → one_body a G ≡ Some o → IsGoalOver c ls rs G → (ms : List TypedName) × IsBody c ms o.list
@@ -111,7 +113,7 @@ module _ (g : Setting) where
     drawn_from ds ms o w k Gs None e r = refused_given Shape Gs r
     drawn_from ds ms o w k Gs (Some x) e r =
         let before = one_side.before_drawing ds o.side x o.post in
-        by_clash (clashing o.side x.target o.post) (o.goal x.before o.pre before) (o.goal o.list o.pre o.post) Gs r (λ h. k.goal x.before o.pre before (sampled_ends c ms o.list x w e k.list)) (k.goal o.list o.pre o.post k.list)
+        by_clash (clashing (exclusions ds) o.side x.target o.post) (o.goal x.before o.pre before) (o.goal o.list o.pre o.post) Gs r (λ h. k.goal x.before o.pre before (sampled_ends c ms o.list x w e k.list)) (k.goal o.list o.pre o.post k.list)
 
     on_body : (ds : Declarations) (a : Acts) (G : Goal) → IsGoalOver c ls rs G → (Gs : List Goal) → on_one (λ o. one_side.by_end ds o (last_sampling o.list)) (one_body a G) (refusing Shape) ≡ given Gs → Leads Gs G
     on_body ds a G w Gs e =
@@ -138,7 +140,7 @@ module _ (g : Setting) where
   symmetry_ends (ambient f) Gs e = refused_given Shape Gs e
 
 pub relational_end : (ds : Declarations) (c : Context) (ls rs : List TypedName) (r : Rule) (G : Goal) → IsGoalOver c ls rs G → (Gs : List Goal) → rule_row ds r G ≡ given Gs → KeepsEnds (declared ds) Gs G
-relational_end ds c ls rs (Relational (Rnd fs)) G w Gs e g over = rnd_ends g c ls rs fs G w Gs e
+relational_end ds c ls rs (Relational (Rnd fs)) G w Gs e g over = rnd_ends g c ls rs ds fs G w Gs e
 relational_end ds c ls rs (Relational Symmetry) G w Gs e g over = symmetry_ends g G Gs e
 relational_end ds c ls rs (Relational (Drawn a)) G w Gs e g over = drawn_ends g c ls rs ds a G w Gs e
 relational_end ds c ls rs (Relational (Transitivity t)) G w Gs e g over = transitivity_ends g t G Gs e

@@ -20,7 +20,6 @@ use Rattle.gb_bodies.specs.If.{if_row}
 use Rattle.gb_bodies.specs.Rows.{rule_row, IsTypedRule}
 use Rattle.gb_bodies.specs.Seq.{seq_row}
 use Rattle.gb_bodies.specs.Skip.{skip_row}
-use Rattle.gb_bodies.specs.Wp.{wp_row}
 use Rattle.gb_bodies.proofs.CaseIsSound as of_case
 use Rattle.gb_bodies.proofs.ConseqIsSound as of_conseq
 use Rattle.gb_bodies.proofs.IfIsSound as of_if
@@ -42,7 +41,7 @@ module _ (ds : Declarations) (scoped : IsTypedScope (declared ds)) (q : Sequent)
   each_sound (OnBodies on_bodies.Skip) outer ls rs G w y Gs e = anywhere (declared ds) c skip_row G (of_skip.sound c outer ls rs G w y) Gs e
   each_sound (OnBodies (on_bodies.Seq k r)) outer ls rs G w y Gs e = anywhere (declared ds) c (seq_row k r) G (of_seq.sound c r k outer ls rs G w y) Gs e
   each_sound (OnBodies (on_bodies.If a)) outer ls rs G w y Gs e = anywhere (declared ds) c (if_row a) G (of_if.sound c a outer ls rs G w y) Gs e
-  each_sound (OnBodies (on_bodies.Wp a)) outer ls rs G w y Gs e = anywhere (declared ds) c (wp_row a) G (of_wp.sound c a outer ls rs G w y) Gs e
+  each_sound (OnBodies (on_bodies.Wp a)) outer ls rs G w y Gs e = of_wp.sound ds scoped c a outer ls rs G w y Gs e
   each_sound (OnBodies (on_bodies.Case f)) outer ls rs G w y Gs e = anywhere (declared ds) c (case_row f) G (of_case.sound c f outer ls rs G w y) Gs e
   each_sound (OnBodies (on_bodies.Conseq n)) outer ls rs G w y Gs e = anywhere (declared ds) c (conseq_row n) G (of_conseq.sound c n outer ls rs G w y) Gs e
   each_sound (OnBodies on_bodies.Unfit) outer ls rs G w y Gs e = refused_given Shape Gs e

@@ -24,6 +24,7 @@ use Rattle.gb_steps.specs.declared.step.Acts.TheVariants as on
 use Rattle.gb_goal.specs.Answers.{Answer, ◌>>=◌}
 use Rattle.gb_goal.specs.Answers.Answer.{given, refused}
 use Rattle.gb_goal.specs.Goal.{Goal}
+use Rattle.gb_goal.specs.Scope.{Declarations}
 use Rattle.gb_goal.specs.Goal.Code.{body, procedure}
 use Rattle.gb_goal.specs.Goal.Goal.{hoare, phoare, equiv, ambient}
 use Rattle.gb_meaning.specs.Memory.{Memory, assigned}
@@ -39,19 +40,24 @@ use Rattle.gb_meaning.specs.Judgments.{Judge, IsFair, IsTrueUnder, speaking, com
 use Rattle.gb_meaning.specs.Written.{type_of}
 use Rattle.gb_meaning.proofs.Truths.{true_and, true_implies, true_not}
 use Rattle.gb_laws.specs.Written.{with_side, IsSide}
+use Rattle.gb_walk.specs.Clash.{Exclusions}
+use Rattle.gb_holds.specs.Declared.{declared}
 use Rattle.gb_typing.specs.Context.{Context, Frame, frame_of, reframed}
 use Rattle.gb_typing.specs.Typing.{IsForm}
 use Rattle.gb_typing.specs.Programs.{IsExpression, IsStatement, AreStatements, EachStatement}
 use Rattle.gb_typing.specs.Fits.{IsSettingOf, IsStateOf}
-use Rattle.gb_typing.specs.Forms.{located, implies_form, and_form, not_form}
+use Rattle.gb_typing.specs.Forms.{IsKeptOff, located, implies_form, and_form, not_form}
 use Rattle.gb_typing.specs.Meaning.{run, denominator, Stands}
-use Rattle.gb_typing.specs.Rules.{Implies, IsSoundRule, no_arguments}
+use Rattle.gb_typing.specs.Rules.{IsSoundRuleIn, no_arguments}
+use Rattle.gb_typing.specs.Scopes.{IsTypedScope}
 use Rattle.gb_typing.specs.Goals.{IsTypedGoal}
 use Rattle.gb_typing.proofs.Forms.{and_typed, implies_typed, not_typed}
-use Rattle.gb_typing.proofs.Given.{AreSound, refused_at, refused_given, same_given, sound_given}
+use Rattle.gb_typing.proofs.Given.{refused_at, refused_given, same_given, sound_given_in}
 use Rattle.gb_typing.proofs.Lists.{first_part, typed_drop}
 use Rattle.gb_typing.proofs.InMemory.{test_typed as form_typed, located_value}
 use Rattle.gb_typing.proofs.Runs.{run_cut, denominator_cut}
+use Rattle.gb_mods.specs.Exclusions.{exclusions}
+use Rattle.gb_adversaries.proofs.KeptOff.{kept_off}
 use Rattle.gb_prog.specs.Straight.{IsStraight, RowIsStraight, AreStraight, ended, after}
 use Rattle.gb_prog.proofs.Straight.{ended_then, straight_run, straight_denominator}
 use Rattle.gb_parts.specs.Assigned.{assigned_form, clashing}
@@ -131,7 +137,7 @@ put_inside s side.Right i m n = refl
 put_inside s (side.Memory k) i m n = absurd i
 put_inside s (side.Bound k) i m n = absurd i
 
-module _ (c : Context) (ls : List TypedName) (F L K : Frame) (r : Side) (side_is : IsSide r) (frame : frame_of (reframed c F L K) r ≡ Some ls) where
+module _ (ex : Exclusions) (c : Context) (ls : List TypedName) (F L K : Frame) (r : Side) (side_is : IsSide r) (frame : frame_of (reframed c F L K) r ≡ Some ls) where
   abbrev d : Context
   d = reframed c F L K
 
@@ -145,33 +151,33 @@ module _ (c : Context) (ls : List TypedName) (F L K : Frame) (r : Side) (side_is
       and_typed d (implies_form (located r e) f) (implies_form (not_form (located r e)) h) (implies_typed d (located r e) f t u) (implies_typed d (not_form (located r e)) h (not_typed d (located r e) t) v)
 
   mutual
-    before_typed : (i : Instr) → IsStatement c ls i → (q w : Term) → IsForm d q → is_straight i ≡ true → before r i q ≡ given w → IsForm d w
-    before_typed (Assign xs e) k q w f l h = assign_typed xs e q w k (few xs l) f (clashing r xs q) h
+    before_typed : (i : Instr) → IsStatement c ls i → (q w : Term) → IsForm d q → is_straight i ≡ true → before ex r i q ≡ given w → IsForm d w
+    before_typed (Assign xs e) k q w f l h = assign_typed xs e q w k (few xs l) f (clashing ex r xs q) h
     before_typed (Sample x e) k q w f l h = refused_given Shape w h
     before_typed (Call' xs p n es) k q w f l h = refused_given Shape w h
     before_typed (If' e m a n b) k q w f l h =
         let t = both_true (row_is_straight a) (row_is_straight b) l in
-        let y = given_then (before_row r a q) (λ y. before_row r b q >>= λ z. given (by_test (located r e) y z)) w h in
-        let z = given_then (before_row r b q) (λ z. given (by_test (located r e) y.0 z)) w y.2 in
+        let y = given_then (before_row ex r a q) (λ y. before_row ex r b q >>= λ z. given (by_test (located r e) y z)) w h in
+        let z = given_then (before_row ex r b q) (λ z. given (by_test (located r e) y.0 z)) w y.2 in
         subst (IsForm d) (same_given (by_test (located r e) y.0 z.0) w z.2)
         (test_typed e y.0 z.0 k.0.0 k.0.1 (row_typed a k.1 q y.0 f t.0 y.1) (row_typed b k.2 q z.0 f t.1 z.1))
     before_typed (While' e v n a) k q w f l h = refused_given Shape w h
 
-    row_typed : {n : Count} (is : Row_of-Instr n) → AreStatements c ls is → (q w : Term) → IsForm d q → row_is_straight is ≡ true → before_row r is q ≡ given w → IsForm d w
+    row_typed : {n : Count} (is : Row_of-Instr n) → AreStatements c ls is → (q w : Term) → IsForm d q → row_is_straight is ≡ true → before_row ex r is q ≡ given w → IsForm d w
     row_typed end_of-Instr k q w f l h = subst (IsForm d) (same_given q w h) f
     row_typed (more_of-Instr i is) k q w f l h =
-        let y = given_then (before_row r is q) (before r i) w h in
+        let y = given_then (before_row ex r is q) (before ex r i) w h in
         let t = both_true (is_straight i) (row_is_straight is) l in
         before_typed i k.0 y.0 w (row_typed is k.1 q y.0 f t.1 y.1) t.0 y.2
 
-  all_typed : (is : List Instr) → EachStatement c ls is → (q w : Term) → IsForm d q → are_straight is ≡ true → before_all r is q ≡ given w → IsForm d w
+  all_typed : (is : List Instr) → EachStatement c ls is → (q w : Term) → IsForm d q → are_straight is ≡ true → before_all ex r is q ≡ given w → IsForm d w
   all_typed [] k q w f l h = subst (IsForm d) (same_given q w h) f
   all_typed (i ∷ is) k q w f l h =
-      let y = given_then (before_all r is q) (before r i) w h in
+      let y = given_then (before_all ex r is q) (before ex r i) w h in
       let t = both_true (is_straight i) (are_straight is) l in
       before_typed i k.0 y.0 w (all_typed is k.1 q y.0 f t.1 y.1) t.0 y.2
 
-  module _ (g : Setting) (fits : IsSettingOf c g) (j : Judge) (fair : IsFair g j) (s : State) (fit : IsStateOf c g s) where
+  module _ (g : Setting) (fits : IsSettingOf c g) (off : IsKeptOff ex g) (j : Judge) (fair : IsFair g j) (s : State) (fit : IsStateOf c g s) where
     -- a form says in a memory what another one says in the memory that a program leads to
     abbrev Says : Term → Program → Term → Type 0
     Says w p q = (m : Memory) → den g j w (with_side s r m) ≡ den g j q (with_side s r (ended g s p m))
@@ -192,11 +198,11 @@ module _ (c : Context) (ls : List TypedName) (F L K : Frame) (r : Side) (side_is
         ∙ (λ i. with_side s r (assigned g.types (put_read s r side_is m i) xs (valued g (with_side s r m) e (put_read s r side_is m i))))
         ∙ ap (λ z. with_side s r (assigned g.types m xs z)) (ap (λ z. value_in (val g quiet e z)) (put_inside s r side_is m m))
 
-    assign_says : (xs : List Var) (e q w : Term) → IsStatement c ls (Assign xs e) → length xs < 9 → IsForm d q → (o : Option Var) → clashing r xs q ≡ o →
+    assign_says : (xs : List Var) (e q w : Term) → IsStatement c ls (Assign xs e) → length xs < 9 → IsForm d q → (o : Option Var) → clashing ex r xs q ≡ o →
         unless_clash o (assigned_form r xs e q) ≡ given w → Says w (statement g (Assign xs e) done) q
     assign_says xs e q w k l f None o h m =
         ap (λ w. den g j w (with_side s r m)) (sym (same_given (assigned_form r xs e q) w h))
-        ∙ assigned_meaning c ls F L K r side_is frame g fits j fair (with_side s r m) (fit_put r side_is m) xs e k.0 k.1 l q f o
+        ∙ assigned_meaning c ls F L K r side_is frame g fits j fair (with_side s r m) (fit_put r side_is m) ex off xs e k.0 k.1 l q f o
         ∙ ap (den g j q) (assigned_put xs e m)
     assign_says xs e q w k l f (Some y) o h m = refused_given (SideCondition y) w h
 
@@ -216,31 +222,31 @@ module _ (c : Context) (ls : List TypedName) (F L K : Frame) (r : Side) (side_is
         chosen false = refl
 
     mutual
-      before_says : (i : Instr) → IsStatement c ls i → (q w : Term) → IsForm d q → is_straight i ≡ true → before r i q ≡ given w → Says w (statement g i done) q
-      before_says (Assign xs e) k q w f l h = assign_says xs e q w k (few xs l) f (clashing r xs q) refl h
+      before_says : (i : Instr) → IsStatement c ls i → (q w : Term) → IsForm d q → is_straight i ≡ true → before ex r i q ≡ given w → Says w (statement g i done) q
+      before_says (Assign xs e) k q w f l h = assign_says xs e q w k (few xs l) f (clashing ex r xs q) refl h
       before_says (Sample x e) k q w f l h = refused_given Shape w h
       before_says (Call' xs p n es) k q w f l h = refused_given Shape w h
       before_says (If' e o a n b) k q w f l h =
-          let y = given_then (before_row r a q) (λ y. before_row r b q >>= λ z. given (by_test (located r e) y z)) w h in
-          let z = given_then (before_row r b q) (λ z. given (by_test (located r e) y.0 z)) w y.2 in
+          let y = given_then (before_row ex r a q) (λ y. before_row ex r b q >>= λ z. given (by_test (located r e) y z)) w h in
+          let z = given_then (before_row ex r b q) (λ z. given (by_test (located r e) y.0 z)) w y.2 in
           let t = both_true (row_is_straight a) (row_is_straight b) l in
           subst (λ w. Says w (branch e (program_of g a) (program_of g b) done) q) (same_given (by_test (located r e) y.0 z.0) w z.2)
           (branch_says e (program_of g a) (program_of g b) y.0 z.0 q k.0.0 (row_says a k.1 q y.0 f t.0 y.1) (row_says b k.2 q z.0 f t.1 z.1))
       before_says (While' e v n a) k q w f l h = refused_given Shape w h
 
-      row_says : {n : Count} (is : Row_of-Instr n) → AreStatements c ls is → (q w : Term) → IsForm d q → row_is_straight is ≡ true → before_row r is q ≡ given w → Says w (program_of g is) q
+      row_says : {n : Count} (is : Row_of-Instr n) → AreStatements c ls is → (q w : Term) → IsForm d q → row_is_straight is ≡ true → before_row ex r is q ≡ given w → Says w (program_of g is) q
       row_says end_of-Instr k q w f l h m = ap (λ w. den g j w (with_side s r m)) (sym (same_given q w h))
       row_says (more_of-Instr i is) k q w f l h m =
-          let y = given_then (before_row r is q) (before r i) w h in
+          let y = given_then (before_row ex r is q) (before ex r i) w h in
           let t = both_true (is_straight i) (row_is_straight is) l in
           before_says i k.0 y.0 w (row_typed is k.1 q y.0 f t.1 y.1) t.0 y.2 m
           ∙ row_says is k.1 q y.0 f t.1 y.1 (ended g s (statement g i done) m)
           ∙ ap (λ n. den g j q (with_side s r n)) (sym (ended_then g s i (straight_is i t.0) (program_of g is) m) ∙ ap (λ p. ended g s p m) (sym (row_program g i is)))
 
-    all_says : (is : List Instr) → EachStatement c ls is → (q w : Term) → IsForm d q → are_straight is ≡ true → before_all r is q ≡ given w → Says w (statements g is) q
+    all_says : (is : List Instr) → EachStatement c ls is → (q w : Term) → IsForm d q → are_straight is ≡ true → before_all ex r is q ≡ given w → Says w (statements g is) q
     all_says [] k q w f l h m = ap (λ w. den g j w (with_side s r m)) (sym (same_given q w h))
     all_says (i ∷ is) k q w f l h m =
-        let y = given_then (before_all r is q) (before r i) w h in
+        let y = given_then (before_all ex r is q) (before ex r i) w h in
         let t = both_true (is_straight i) (are_straight is) l in
         before_says i k.0 y.0 w (all_typed is k.1 q y.0 f t.1 y.1) t.0 y.2 m
         ∙ all_says is k.1 q y.0 f t.1 y.1 (ended g s (statement g i done) m)
@@ -305,52 +311,55 @@ same_effect g s m n is k = same_end g (between s m n) s (λ o. refl) (statements
 same_run : (g : Setting) (s : State) (is : List Instr) (m : Memory) → run g s is m ≡ dmap (λ n. n) (run g s is m)
 same_run g s is m = sym (dmap_by_bind (λ n. n) (run g s is m) ∙ bind-unit_right (run g s is m))
 
-module _ (c : Context) where
-  pub sound : (a : Acts) → IsSoundRule c (wp_row a) no_arguments
+module _ (ds : Declarations) (scoped : IsTypedScope (declared ds)) (c : Context) where
+  abbrev ex : Exclusions
+  ex = exclusions ds
+
+  pub sound : (a : Acts) → IsSoundRuleIn (declared ds) c (wp_row ds a) no_arguments
   sound on.All outer ls rs (hoare (body is) p q) w y Gs e =
-      let x = given_then (before_all side.Own (ending is) q) (λ z. given (hoare (body (front is)) p z ∷ [])) Gs e in
+      let x = given_then (before_all ex side.Own (ending is) q) (λ z. given (hoare (body (front is)) p z ∷ [])) Gs e in
       let v = typed_drop c ls (staying is) is w.0.statements in
-      sound_given c (hoare (body is) p q) (hoare (body (front is)) p x.0 ∷ []) Gs (
-        ((ls, ls, (first_part c ls (staying is) is w.0, w.1, all_typed c ls (Some ls) c.left c.right side.Own tt refl (ending is) v q x.0 w.2 (ending_is is) x.1)), tt),
-        λ g fits j fair s fit h. hoare_before g j s is p q x.0 (λ m. all_says c ls (Some ls) c.left c.right side.Own tt refl g fits j fair s fit (ending is) v q x.0 w.2 (ending_is is) x.1 m) h.0,
+      sound_given_in (declared ds) c (hoare (body is) p q) (hoare (body (front is)) p x.0 ∷ []) Gs (
+        ((ls, ls, (first_part c ls (staying is) is w.0, w.1, all_typed ex c ls (Some ls) c.left c.right side.Own tt refl (ending is) v q x.0 w.2 (ending_is is) x.1)), tt),
+        λ g fits over j fair s fit h. hoare_before g j s is p q x.0 (λ m. all_says ex c ls (Some ls) c.left c.right side.Own tt refl g fits (kept_off ds scoped g over) j fair s fit (ending is) v q x.0 w.2 (ending_is is) x.1 m) h.0,
       ) x.2
   sound on.All outer ls rs (phoare (body is) r p q b) w y Gs e =
-      let x = given_then (before_all side.Own (ending is) q) (λ z. given (phoare (body (front is)) r p z b ∷ [])) Gs e in
+      let x = given_then (before_all ex side.Own (ending is) q) (λ z. given (phoare (body (front is)) r p z b ∷ [])) Gs e in
       let v = typed_drop c ls (staying is) is w.0.statements in
-      sound_given c (phoare (body is) r p q b) (phoare (body (front is)) r p x.0 b ∷ []) Gs (
-        ((ls, ls, (first_part c ls (staying is) is w.0, w.1, all_typed c ls (Some ls) c.left c.right side.Own tt refl (ending is) v q x.0 w.2 (ending_is is) x.1, w.3, w.4)), tt),
-        λ g fits j fair s fit h. phoare_before g j s is r p q b x.0 (λ m. all_says c ls (Some ls) c.left c.right side.Own tt refl g fits j fair s fit (ending is) v q x.0 w.2 (ending_is is) x.1 m) h.0,
+      sound_given_in (declared ds) c (phoare (body is) r p q b) (phoare (body (front is)) r p x.0 b ∷ []) Gs (
+        ((ls, ls, (first_part c ls (staying is) is w.0, w.1, all_typed ex c ls (Some ls) c.left c.right side.Own tt refl (ending is) v q x.0 w.2 (ending_is is) x.1, w.3, w.4)), tt),
+        λ g fits over j fair s fit h. phoare_before g j s is r p q b x.0 (λ m. all_says ex c ls (Some ls) c.left c.right side.Own tt refl g fits (kept_off ds scoped g over) j fair s fit (ending is) v q x.0 w.2 (ending_is is) x.1 m) h.0,
       ) x.2
   sound on.Left outer ls rs (equiv (body is) (body js) p q) w y Gs e =
-      let x = given_then (before_all side.Left (ending is) q) (λ z. given (equiv (body (front is)) (body js) p z ∷ [])) Gs e in
+      let x = given_then (before_all ex side.Left (ending is) q) (λ z. given (equiv (body (front is)) (body js) p z ∷ [])) Gs e in
       let v = typed_drop c ls (staying is) is w.1.statements in
-      sound_given c (equiv (body is) (body js) p q) (equiv (body (front is)) (body js) p x.0 ∷ []) Gs (
-        ((ls, rs, (tt, first_part c ls (staying is) is w.1, w.2, w.3, all_typed c ls c.own (Some ls) (Some rs) side.Left tt refl (ending is) v q x.0 w.4 (ending_is is) x.1)), tt),
-        λ g fits j fair s fit h. equiv_before g j s is js (front is) js (effect g s is) (λ n. n) p q x.0 (run_front g s is) (denominator_front g s is) (same_run g s js) refl
-            (λ m n. all_says c ls c.own (Some ls) (Some rs) side.Left tt refl g fits j fair (between s m n) (record { logical = fit.logical; bound = fit.bound }) (ending is) v q x.0 w.4 (ending_is is) x.1 m
+      sound_given_in (declared ds) c (equiv (body is) (body js) p q) (equiv (body (front is)) (body js) p x.0 ∷ []) Gs (
+        ((ls, rs, (tt, first_part c ls (staying is) is w.1, w.2, w.3, all_typed ex c ls c.own (Some ls) (Some rs) side.Left tt refl (ending is) v q x.0 w.4 (ending_is is) x.1)), tt),
+        λ g fits over j fair s fit h. equiv_before g j s is js (front is) js (effect g s is) (λ n. n) p q x.0 (run_front g s is) (denominator_front g s is) (same_run g s js) refl
+            (λ m n. all_says ex c ls c.own (Some ls) (Some rs) side.Left tt refl g fits (kept_off ds scoped g over) j fair (between s m n) (record { logical = fit.logical; bound = fit.bound }) (ending is) v q x.0 w.4 (ending_is is) x.1 m
             ∙ ap (λ k. den g j q (between s k n)) (same_effect g s m n is m)) h.0,
       ) x.2
   sound on.Right outer ls rs (equiv (body is) (body js) p q) w y Gs e =
-      let x = given_then (before_all side.Right (ending js) q) (λ z. given (equiv (body is) (body (front js)) p z ∷ [])) Gs e in
+      let x = given_then (before_all ex side.Right (ending js) q) (λ z. given (equiv (body is) (body (front js)) p z ∷ [])) Gs e in
       let v = typed_drop c rs (staying js) js w.2.statements in
-      sound_given c (equiv (body is) (body js) p q) (equiv (body is) (body (front js)) p x.0 ∷ []) Gs (
-        ((ls, rs, (tt, w.1, first_part c rs (staying js) js w.2, w.3, all_typed c rs c.own (Some ls) (Some rs) side.Right tt refl (ending js) v q x.0 w.4 (ending_is js) x.1)), tt),
-        λ g fits j fair s fit h. equiv_before g j s is js is (front js) (λ m. m) (effect g s js) p q x.0 (same_run g s is) refl (run_front g s js) (denominator_front g s js)
-            (λ m n. all_says c rs c.own (Some ls) (Some rs) side.Right tt refl g fits j fair (between s m n) (record { logical = fit.logical; bound = fit.bound }) (ending js) v q x.0 w.4 (ending_is js) x.1 n
+      sound_given_in (declared ds) c (equiv (body is) (body js) p q) (equiv (body is) (body (front js)) p x.0 ∷ []) Gs (
+        ((ls, rs, (tt, w.1, first_part c rs (staying js) js w.2, w.3, all_typed ex c rs c.own (Some ls) (Some rs) side.Right tt refl (ending js) v q x.0 w.4 (ending_is js) x.1)), tt),
+        λ g fits over j fair s fit h. equiv_before g j s is js is (front js) (λ m. m) (effect g s js) p q x.0 (same_run g s is) refl (run_front g s js) (denominator_front g s js)
+            (λ m n. all_says ex c rs c.own (Some ls) (Some rs) side.Right tt refl g fits (kept_off ds scoped g over) j fair (between s m n) (record { logical = fit.logical; bound = fit.bound }) (ending js) v q x.0 w.4 (ending_is js) x.1 n
             ∙ ap (λ k. den g j q (between s m k)) (same_effect g s m n js n)) h.0,
       ) x.2
   sound on.All outer ls rs (equiv (body is) (body js) p q) w y Gs e =
-      let x = given_then (before_all side.Left (ending is) q) (λ z. before_all side.Right (ending js) z >>= λ u. given (equiv (body (front is)) (body (front js)) p u ∷ [])) Gs e in
-      let z = given_then (before_all side.Right (ending js) x.0) (λ u. given (equiv (body (front is)) (body (front js)) p u ∷ [])) Gs x.2 in
+      let x = given_then (before_all ex side.Left (ending is) q) (λ z. before_all ex side.Right (ending js) z >>= λ u. given (equiv (body (front is)) (body (front js)) p u ∷ [])) Gs e in
+      let z = given_then (before_all ex side.Right (ending js) x.0) (λ u. given (equiv (body (front is)) (body (front js)) p u ∷ [])) Gs x.2 in
       let v = typed_drop c ls (staying is) is w.1.statements in
       let u = typed_drop c rs (staying js) js w.2.statements in
-      let f = all_typed c ls c.own (Some ls) (Some rs) side.Left tt refl (ending is) v q x.0 w.4 (ending_is is) x.1 in
-      sound_given c (equiv (body is) (body js) p q) (equiv (body (front is)) (body (front js)) p z.0 ∷ []) Gs (
-        ((ls, rs, (tt, first_part c ls (staying is) is w.1, first_part c rs (staying js) js w.2, w.3, all_typed c rs c.own (Some ls) (Some rs) side.Right tt refl (ending js) u x.0 z.0 f (ending_is js) z.1)), tt),
-        λ g fits j fair s fit h. equiv_before g j s is js (front is) (front js) (effect g s is) (effect g s js) p q z.0 (run_front g s is) (denominator_front g s is) (run_front g s js) (denominator_front g s js)
-            (λ m n. all_says c rs c.own (Some ls) (Some rs) side.Right tt refl g fits j fair (between s m n) (record { logical = fit.logical; bound = fit.bound }) (ending js) u x.0 z.0 f (ending_is js) z.1 n
+      let f = all_typed ex c ls c.own (Some ls) (Some rs) side.Left tt refl (ending is) v q x.0 w.4 (ending_is is) x.1 in
+      sound_given_in (declared ds) c (equiv (body is) (body js) p q) (equiv (body (front is)) (body (front js)) p z.0 ∷ []) Gs (
+        ((ls, rs, (tt, first_part c ls (staying is) is w.1, first_part c rs (staying js) js w.2, w.3, all_typed ex c rs c.own (Some ls) (Some rs) side.Right tt refl (ending js) u x.0 z.0 f (ending_is js) z.1)), tt),
+        λ g fits over j fair s fit h. equiv_before g j s is js (front is) (front js) (effect g s is) (effect g s js) p q z.0 (run_front g s is) (denominator_front g s is) (run_front g s js) (denominator_front g s js)
+            (λ m n. all_says ex c rs c.own (Some ls) (Some rs) side.Right tt refl g fits (kept_off ds scoped g over) j fair (between s m n) (record { logical = fit.logical; bound = fit.bound }) (ending js) u x.0 z.0 f (ending_is js) z.1 n
             ∙ ap (λ k. den g j x.0 (between s m k)) (same_effect g s m n js n)
-            ∙ all_says c ls c.own (Some ls) (Some rs) side.Left tt refl g fits j fair (between s m (effect g s js n)) (record { logical = fit.logical; bound = fit.bound }) (ending is) v q x.0 w.4 (ending_is is) x.1 m
+            ∙ all_says ex c ls c.own (Some ls) (Some rs) side.Left tt refl g fits (kept_off ds scoped g over) j fair (between s m (effect g s js n)) (record { logical = fit.logical; bound = fit.bound }) (ending is) v q x.0 w.4 (ending_is is) x.1 m
             ∙ ap (λ k. den g j q (between s k (effect g s js n))) (same_effect g s m (effect g s js n) is m)) h.0,
       ) z.2
   sound on.All outer ls rs (hoare (procedure a) p q) w y Gs e = refused_given Shape Gs e

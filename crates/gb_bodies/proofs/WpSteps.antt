@@ -10,6 +10,7 @@ use Rattle.gb_terms.specs.declared.term.Head.TheBlock as B
 use Rattle.gb_terms.specs.declared.term.Head.TheVariants.{If}
 use Rattle.gb_goal.specs.Answers.{Answer, ◌>>=◌}
 use Rattle.gb_goal.specs.Answers.Answer.{given, refused}
+use Rattle.gb_walk.specs.Clash.{Exclusions}
 use Rattle.gb_typing.specs.Forms.{located}
 use Rattle.gb_bodies.specs.Wp.{is_straight, row_is_straight, are_straight, before, before_row, before_all, with_front, staying}
 use Rattle.gb_forms.specs.Branches.{by_test}
@@ -25,16 +26,16 @@ straight_list is = straight_row (B.hidden-the_row-Instr-1 is) ∙ ap are_straigh
 pub straight_if : (e : Term) (a b : Cmd) → is_straight (If e a b) ≡ (are_straight a.list && are_straight b.list)
 straight_if e a b = λ i. straight_list a.list i && straight_list b.list i
 
-row_before : {n : Count} (s : Side) (r : Row_of-Instr n) (q : Term) → before_row s r q ≡ before_all s (items-the_row-Instr _ r) q
-row_before s end_of-Instr q = refl
-row_before s (more_of-Instr i r) q = ap (λ a. a >>= before s i) (row_before s r q)
+row_before : {n : Count} (ex : Exclusions) (s : Side) (r : Row_of-Instr n) (q : Term) → before_row ex s r q ≡ before_all ex s (items-the_row-Instr _ r) q
+row_before ex s end_of-Instr q = refl
+row_before ex s (more_of-Instr i r) q = ap (λ a. a >>= before ex s i) (row_before ex s r q)
 
-list_before : (s : Side) (is : List Instr) (q : Term) → before_row s (B.hidden-the_row-Instr-1 is) q ≡ before_all s is q
-list_before s is q = row_before s (B.hidden-the_row-Instr-1 is) q ∙ ap (λ is. before_all s is q) (items_hidden-the_row-Instr-1 is)
+list_before : (ex : Exclusions) (s : Side) (is : List Instr) (q : Term) → before_row ex s (B.hidden-the_row-Instr-1 is) q ≡ before_all ex s is q
+list_before ex s is q = row_before ex s (B.hidden-the_row-Instr-1 is) q ∙ ap (λ is. before_all ex s is q) (items_hidden-the_row-Instr-1 is)
 
-pub before_if : (s : Side) (e : Term) (a b : Cmd) (q : Term) →
-    before s (If e a b) q ≡ (before_all s a.list q >>= λ f. before_all s b.list q >>= λ h. given (by_test (located s e) f h))
-before_if s e a b q = λ i. list_before s a.list q i >>= λ f. list_before s b.list q i >>= λ h. given (by_test (located s e) f h)
+pub before_if : (ex : Exclusions) (s : Side) (e : Term) (a b : Cmd) (q : Term) →
+    before ex s (If e a b) q ≡ (before_all ex s a.list q >>= λ f. before_all ex s b.list q >>= λ h. given (by_test (located s e) f h))
+before_if ex s e a b q = λ i. list_before ex s a.list q i >>= λ f. list_before ex s b.list q i >>= λ h. given (by_test (located s e) f h)
 
 -- one statement more, from the last one on
 
@@ -46,12 +47,12 @@ bound_given : {A : Type 0} (a : Answer A) → a ≡ (a >>= λ x. given x)
 bound_given (given x) = refl
 bound_given (refused w p) = refl
 
-before_end : (s : Side) (is : List Instr) (i : Instr) (q : Term) → before_all s (is ++ i ∷ []) q ≡ (before s i q >>= λ w. before_all s is w)
-before_end s [] i q = bound_given (before s i q)
-before_end s (j ∷ is) i q = ap (λ a. a >>= before s j) (before_end s is i q) ∙ bound_twice (before s i q) (λ w. before_all s is w) (before s j)
+before_end : (ex : Exclusions) (s : Side) (is : List Instr) (i : Instr) (q : Term) → before_all ex s (is ++ i ∷ []) q ≡ (before ex s i q >>= λ w. before_all ex s is w)
+before_end ex s [] i q = bound_given (before ex s i q)
+before_end ex s (j ∷ is) i q = ap (λ a. a >>= before ex s j) (before_end ex s is i q) ∙ bound_twice (before ex s i q) (λ w. before_all ex s is w) (before ex s j)
 
-pub before_last : (s : Side) (is : List Instr) (n : ℕ) (i : Instr) (q : Term) → n < length is → i ≡ get_or is n i → before_all s (take (suc n) is) q ≡ (before s i q >>= λ w. before_all s (take n is) w)
-before_last s is n i q h e = ap (λ js. before_all s js q) (take-suc is n i h ∙ ap (λ j. take n is ++ (j ∷ [])) (sym e)) ∙ before_end s (take n is) i q
+pub before_last : (ex : Exclusions) (s : Side) (is : List Instr) (n : ℕ) (i : Instr) (q : Term) → n < length is → i ≡ get_or is n i → before_all ex s (take (suc n) is) q ≡ (before ex s i q >>= λ w. before_all ex s (take n is) w)
+before_last ex s is n i q h e = ap (λ js. before_all ex s js q) (take-suc is n i h ∙ ap (λ j. take n is ++ (j ∷ [])) (sym e)) ∙ before_end ex s (take n is) i q
 
 -- how many stay
 
@@ -79,10 +80,10 @@ module _ (is : List Instr) (k : ℕ) (h : k < length is) (i : Instr) (e : i ≡ 
   within : place < length is
   within = omega (arith, h)
 
-  pub before_last_at : (s : Side) (q : Term) → before_all s (take (length is - k) is) q ≡ (before s i q >>= λ w. before_all s (take (length is - (k + 1)) is) w)
-  before_last_at s q =
+  pub before_last_at : (ex : Exclusions) (s : Side) (q : Term) → before_all ex s (take (length is - k) is) q ≡ (before ex s i q >>= λ w. before_all ex s (take (length is - (k + 1)) is) w)
+  before_last_at ex s q =
       let b : length is - (k + 1) ≡ place = omega (arith, h) in
-      ap (λ m. before_all s (take m is) q) next ∙ before_last s is place i q within e ∙ ap (λ m. before s i q >>= λ w. before_all s (take m is) w) (sym b)
+      ap (λ m. before_all ex s (take m is) q) next ∙ before_last ex s is place i q within e ∙ ap (λ m. before ex s i q >>= λ w. before_all ex s (take m is) w) (sym b)
 
   pub some_stay_at : are_straight (drop (length is - k) is) ≡ true → is_straight i ≡ false → place + 1 ≡ staying is
   some_stay_at l f =

@@ -19,6 +19,9 @@ use Rattle.gb_typing.specs.Forms.{located}
 use Rattle.gb_forms.specs.Branches.{by_test}
 use Rattle.gb_parts.specs.Assigned.{assigned_form, clashing}
 use Rattle.gb_parts.specs.OneBody.{OneBody, one_body, on_one}
+use Rattle.gb_walk.specs.Clash.{Exclusions}
+use Rattle.gb_mods.specs.Exclusions.{exclusions}
+use Rattle.gb_goal.specs.Scope.{Declarations}
 
 abbrev mutual
   -- an assignment to at most 8 variables, or a branch whose sides are made of such statements
@@ -43,22 +46,22 @@ unless_clash (Some x) f = refusing (SideCondition x)
 
 abbrev mutual
   -- what has to hold before a statement without chance, in a memory, so that a form holds after it
-  pub before : Side → Instr → Term → Answer Term
-  before r (Assign xs e) q = unless_clash (clashing r xs q) (assigned_form r xs e q)
-  before r (If' e m a n b) q = do
-    f ← before_row r a q
-    h ← before_row r b q
+  pub before : Exclusions → Side → Instr → Term → Answer Term
+  before es r (Assign xs e) q = unless_clash (clashing es r xs q) (assigned_form r xs e q)
+  before es r (If' e m a n b) q = do
+    f ← before_row es r a q
+    h ← before_row es r b q
     given (by_test (located r e) f h)
-  before r _ q = refusing Shape
+  before es r _ q = refusing Shape
 
-  pub before_row : {n : _} → Side → Row_of-Instr n → Term → Answer Term
-  before_row r end_of-Instr q = given q
-  before_row r (more_of-Instr i is) q = before_row r is q >>= before r i
+  pub before_row : {n : _} → Exclusions → Side → Row_of-Instr n → Term → Answer Term
+  before_row es r end_of-Instr q = given q
+  before_row es r (more_of-Instr i is) q = before_row es r is q >>= before es r i
 
 -- the same of lists
-abbrev pub before_all : Side → List Instr → Term → Answer Term
-before_all r [] q = given q
-before_all r (i ∷ is) q = before_all r is q >>= before r i
+abbrev pub before_all : Exclusions → Side → List Instr → Term → Answer Term
+before_all es r [] q = given q
+before_all es r (i ∷ is) q = before_all es r is q >>= before es r i
 
 -- how many statements stay behind a further one, which leaves if it is without chance and none stays
 abbrev pub with_front : Bool → ℕ → ℕ
@@ -79,18 +82,18 @@ abbrev pub ending : List Instr → List Instr
 ending is = drop (staying is) is
 
 -- one body
-abbrev pub wp_one : OneBody → Answer (List Goal)
-wp_one o = do
-  q ← before_all o.side (ending o.list) o.post
+abbrev pub wp_one : Exclusions → OneBody → Answer (List Goal)
+wp_one es o = do
+  q ← before_all es o.side (ending o.list) o.post
   given (o.goal (front o.list) o.pre q ∷ [])
 
 -- two bodies
-abbrev pub wp_both : Acts → Row
-wp_both on.All (equiv (body is) (body js) p q) = do
-  l ← before_all Left (ending is) q
-  r ← before_all Right (ending js) l
+abbrev pub wp_both : Exclusions → Acts → Row
+wp_both es on.All (equiv (body is) (body js) p q) = do
+  l ← before_all es Left (ending is) q
+  r ← before_all es Right (ending js) l
   given (equiv (body (front is)) (body (front js)) p r ∷ [])
-wp_both a G = refusing Shape
+wp_both es a G = refusing Shape
 
-abbrev pub wp_row : Acts → Row
-wp_row a G = on_one wp_one (one_body a G) (wp_both a G)
+abbrev pub wp_row : Declarations → Acts → Row
+wp_row ds a G = on_one (wp_one (exclusions ds)) (one_body a G) (wp_both (exclusions ds) a G)

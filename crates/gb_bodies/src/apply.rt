@@ -27,7 +27,7 @@ fn answer(alloc: Global, rule: &Rule, goal: &Sequent, scope: &Scope) -> Result<S
         Rule::OnBodies(BodyRule::Skip) => skip(alloc, goal),
         Rule::OnBodies(BodyRule::Seq(position, between)) => seq(alloc, goal, *position, between),
         Rule::OnBodies(BodyRule::If(acts)) => if_rule(alloc, goal, *acts),
-        Rule::OnBodies(BodyRule::Wp(acts)) => wp(alloc, goal, *acts),
+        Rule::OnBodies(BodyRule::Wp(acts)) => wp(alloc, goal, scope, *acts),
         Rule::OnBodies(BodyRule::Case(form)) => case(alloc, goal, form),
         Rule::OnBodies(BodyRule::Conseq(weakened)) => conseq(alloc, goal, weakened),
         _ => Err(no_shape()),

@@ -5,10 +5,13 @@ ghost use Rattle.gb_steps.specs.declared.step.Acts.{Acts as Programs};
 ghost use Rattle.gb_goal.specs.Answers.{Answers};
 ghost use Rattle.gb_goal.specs.Goal.Code.{body};
 ghost use Rattle.gb_goal.specs.Rows.{answered, each_concluding};
+ghost use Rattle.gb_goal.specs.Scope.{Declarations};
 ghost use Rattle.gb_goal.specs.Views.{goal_seen};
+ghost use Rattle.gb_holds.specs.Declared.{declared};
 ghost use Rattle.gb_typing.specs.Context.{Context};
 ghost use Rattle.gb_typing.specs.Forms.{located};
-ghost use Rattle.gb_typing.specs.Rules.{IsSoundRule, no_arguments};
+ghost use Rattle.gb_typing.specs.Rules.{IsSoundRuleIn, no_arguments};
+ghost use Rattle.gb_typing.specs.Scopes.{IsTypedScope};
 ghost use Rattle.gb_parts.specs.Assigned.{assigned_form, clashing};
 ghost use Rattle.gb_parts.specs.OneBody.{one_seen};
 ghost use Rattle.gb_bodies.specs.Wp.{are_straight, before, before_all, front, is_straight, staying, unless_clash, wp_both, wp_one, wp_row};
@@ -19,7 +22,9 @@ use gb_core::refusal::{Refused, Why};
 use gb_core::var::Var;
 use gb_forms::branches::by_test;
 use gb_goal::goal::{Code, Goal, goal_of};
+use gb_goal::scope::Scope;
 use gb_goal::sequent::{Sequent, Sequents};
+use gb_mods::exclusions::exclusions;
 use gb_parts::assigned::{assigned_form, clashing};
 use gb_parts::forms::located;
 use gb_parts::one_body::{OneBody, filled, one_body, side_of};
@@ -27,6 +32,7 @@ use gb_parts::subgoals::{no_shape, one_goal, refusal, shared_body};
 use gb_steps::step::Acts;
 use gb_terms::op::Side;
 use gb_terms::term::{Form, Instr, Term};
+use gb_walk::clash::Excluded;
 use std::alloc::Global;
 
 /// More variables than a tuple has parts.
@@ -75,14 +81,15 @@ fn staying(list: &[Instr]) -> usize
 /// What a form becomes in front of an assignment.
 fn before_assign(
     alloc: Global,
+    exclusions: &[Excluded],
     side: Side,
     targets: &[Var],
     value: &Term,
     post: &Form,
 ) -> Result<Form, Refused>
-    ensures { Answers (unless_clash (clashing side targets.now post.now) (assigned_form side targets.now value.now post.now)) result }
+    ensures { Answers (unless_clash (clashing exclusions.now side targets.now post.now) (assigned_form side targets.now value.now post.now)) result }
 {
-    if let Some(target) = clashing(side, targets, post) {
+    if let Some(target) = clashing(exclusions, side, targets, post) {
         let target = copy_var(alloc, target)?;
         return Err(refusal(Why::SideCondition(target)));
     }
@@ -91,16 +98,22 @@ fn before_assign(
 
 /// What has to hold before a statement without chance, so that a form holds after it.
 #[cycle(wp)]
-fn before(alloc: Global, side: Side, statement: &Instr, post: &Form) -> Result<Form, Refused>
-    ensures { Answers (before side statement.now post.now) result }
+fn before(
+    alloc: Global,
+    exclusions: &[Excluded],
+    side: Side,
+    statement: &Instr,
+    post: &Form,
+) -> Result<Form, Refused>
+    ensures { Answers (before exclusions.now side statement.now post.now) result }
 {
     match statement {
         Instr::Assign(targets, value) => {
-            before_assign(alloc, side, targets.as_slice(), value, post)
+            before_assign(alloc, exclusions, side, targets.as_slice(), value, post)
         }
         Instr::If(test, yes, no) => {
-            let yes = before_all(alloc, side, yes.list.as_slice(), post)?;
-            let no = before_all(alloc, side, no.list.as_slice(), post)?;
+            let yes = before_all(alloc, exclusions, side, yes.list.as_slice(), post)?;
+            let no = before_all(alloc, exclusions, side, no.list.as_slice(), post)?;
             let test = located(alloc, test, side)?;
             Ok(by_test(alloc, test, yes, no)?)
         }
@@ -110,23 +123,34 @@ fn before(alloc: Global, side: Side, statement: &Instr, post: &Form) -> Result<F
 
 /// The same of statements one after another.
 #[cycle(wp)]
-fn before_all(alloc: Global, side: Side, list: &[Instr], post: &Form) -> Result<Form, Refused>
-    ensures { Answers (before_all side list.now post.now) result }
+fn before_all(
+    alloc: Global,
+    exclusions: &[Excluded],
+    side: Side,
+    list: &[Instr],
+    post: &Form,
+) -> Result<Form, Refused>
+    ensures { Answers (before_all exclusions.now side list.now post.now) result }
 {
     let mut form = post.share()?;
     for k in 0..list.len() {
         let at = list.len() - 1 - k;
-        form = before(alloc, side, &list[at], &form)?;
+        form = before(alloc, exclusions, side, &list[at], &form)?;
     }
     Ok(form)
 }
 
 /// The subgoal on one body.
-fn wp_one(alloc: Global, goal: &Sequent, one: &OneBody<'_>) -> Result<Sequents, Refused>
-    ensures { Answers (each_concluding goal.now (wp_one (one_seen one.now))) result }
+fn wp_one(
+    alloc: Global,
+    goal: &Sequent,
+    exclusions: &[Excluded],
+    one: &OneBody<'_>,
+) -> Result<Sequents, Refused>
+    ensures { Answers (each_concluding goal.now (wp_one exclusions.now (one_seen one.now))) result }
 {
     let (front, ending) = one.list.split_at(staying(one.list));
-    let post = before_all(alloc, side_of(one.around), ending, one.post)?;
+    let post = before_all(alloc, exclusions, side_of(one.around), ending, one.post)?;
     let pre = one.pre.share()?;
     let list = shared_body(alloc, front)?;
     let conclusion = filled(alloc, one.around, list, pre, post)?;
@@ -134,15 +158,21 @@ fn wp_one(alloc: Global, goal: &Sequent, one: &OneBody<'_>) -> Result<Sequents, 
 }
 
 /// The subgoal on two bodies.
-fn wp_both(alloc: Global, goal: &Sequent, acts: Acts, seen: Goal) -> Result<Sequents, Refused>
-    ensures { Answers (each_concluding goal.now (wp_both acts (goal_seen seen.entry))) result }
+fn wp_both(
+    alloc: Global,
+    goal: &Sequent,
+    exclusions: &[Excluded],
+    acts: Acts,
+    seen: Goal,
+) -> Result<Sequents, Refused>
+    ensures { Answers (each_concluding goal.now (wp_both exclusions.now acts (goal_seen seen.entry))) result }
 {
     match (acts, seen) {
         (Acts::All, Goal::Equiv(Code::Body(left), Code::Body(right), pre, post)) => {
             let (left, left_ending) = left.split_at(staying(left));
             let (right, right_ending) = right.split_at(staying(right));
-            let post = before_all(alloc, Side::Left, left_ending, post)?;
-            let post = before_all(alloc, Side::Right, right_ending, &post)?;
+            let post = before_all(alloc, exclusions, Side::Left, left_ending, post)?;
+            let post = before_all(alloc, exclusions, Side::Right, right_ending, &post)?;
             let conclusion = of_two(alloc, left, right, pre, post)?;
             one_goal(alloc, goal, conclusion).map_err(Refused::from)
         }
@@ -153,17 +183,18 @@ fn wp_both(alloc: Global, goal: &Sequent, acts: Acts, seen: Goal) -> Result<Sequ
 /// The subgoal of `wp`: the assignments that end each body, and the branches between such, leave it, and the postcondition becomes
 /// what has to hold before them. Refused with `Shape` where the goal has no such bodies, and with `SideCondition` where a form reads a
 /// variable that clashes with one that is assigned.
-pub fn wp(alloc: Global, goal: &Sequent, acts: Acts) -> Result<Sequents, Refused>
-    ensures { Answers (answered (wp_row acts) goal.now) result }
+pub fn wp(alloc: Global, goal: &Sequent, scope: &Scope, acts: Acts) -> Result<Sequents, Refused>
+    ensures { Answers (answered (wp_row scope.now acts) goal.now) result }
 {
+    let excluded = exclusions(alloc, scope)?;
     let seen = goal_of(&goal.conclusion);
     match one_body(acts, seen) {
-        Some(one) => wp_one(alloc, goal, &one),
-        None => wp_both(alloc, goal, acts, seen),
+        Some(one) => wp_one(alloc, goal, excluded.as_slice(), &one),
+        None => wp_both(alloc, goal, excluded.as_slice(), acts, seen),
     }
 }
 
-/// `wp`, and `wp` on one of two programs, are sound.
+/// `wp`, and `wp` on one of two programs, are sound over each typed scope.
 pub fn wp_is_sound()
-    ensures { (c : Context) (a : Programs) → IsSoundRule c (wp_row a) no_arguments }
+    ensures { (ds : Declarations) → IsTypedScope (declared ds) → (c : Context) (a : Programs) → IsSoundRuleIn (declared ds) c (wp_row ds a) no_arguments }
 {}

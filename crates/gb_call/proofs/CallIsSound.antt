@@ -17,7 +17,7 @@ use Rattle.gb_terms.specs.declared.op.Side.TheVariants as side
 use Rattle.gb_terms.specs.declared.term.Instr.{Instr}
 use Rattle.gb_terms.specs.declared.term.Term.{Term}
 use Rattle.gb_terms.specs.Equal.{var_eq}
-use Rattle.gb_walk.specs.Clash.{variables_read}
+use Rattle.gb_walk.specs.Clash.{Exclusions, variables_read}
 use Rattle.gb_meaning.specs.Commands.{statements}
 use Rattle.gb_meaning.specs.Fractions.{Fraction}
 use Rattle.gb_meaning.specs.Judgments.{Judge, IsFair, IsSoundIfThere, IsTrueUnder, chance, compares, den, from_frame, outcome_denominator, speaking}
@@ -55,6 +55,7 @@ use Rattle.gb_typing.specs.Typing.{before, after, IsForm, IsThere, IsTyped}
 use Rattle.gb_typing.proofs.Drawing.{body_sound}
 use Rattle.gb_typing.proofs.Sound.{procedures_sound}
 use Rattle.gb_typing.proofs.Located.{IsTypedThere}
+use Rattle.gb_typing.specs.Forms.{IsKeptOff}
 use Rattle.gb_typing.specs.Meaning.{Stands, denominator, run}
 use Rattle.gb_typing.specs.Rules.{IsSettingOver, IsSoundIn, IsSoundRuleIn, ImpliesIn, outermost}
 use Rattle.gb_typing.specs.Goals.{IsGoalOver, IsTypedGoal}
@@ -73,7 +74,9 @@ use Rattle.gb_parts.proofs.Comparing.{number_made, real_made, compared_typed, nu
 use Rattle.gb_full.proofs.Full.{total_full}
 use Rattle.gb_parts.proofs.Likely.{FollowsAt}
 use Rattle.gb_full.specs.Lossless.{of_rest}
+use Rattle.gb_mods.specs.Exclusions.{exclusions}
 use Rattle.gb_mods.specs.Written.{written}
+use Rattle.gb_adversaries.proofs.KeptOff.{kept_off}
 use Rattle.gb_call.specs.LastCall.{LastCall, last_call}
 use Rattle.gb_call.specs.Outcomes.{Outcome, after_call, after_where, clash_after, is_among, is_read, of_arguments, reads_result}
 use Rattle.gb_call.specs.Written.{with_types}
@@ -91,7 +94,7 @@ module _ (ds : Declarations) (scoped : IsTypedScope (declared ds)) (t : Sequent)
   c = of_sequent (context_of (declared ds)) t typed.frames
 
   module _ (outer : c ≡ outermost c) (ls : List TypedName) (is : List Instr) (q : Term) (typed_body : IsBody c ls is) (typed_end : IsForm (with_own c (Some ls)) q) (k : LastCall) (last : last_call is ≡ Some k) (y : IsContract c s (Some k))
-      (a : Proc) (e : procedure_of ds k.procedure ≡ Some a) (U : List Var) (u : written ds k.procedure ≡ Some U) (many : length k.targets < 9) (clear : clash_after side.Own k.targets U s.post q ≡ None)
+      (a : Proc) (e : procedure_of ds k.procedure ≡ Some a) (U : List Var) (u : written ds k.procedure ≡ Some U) (many : length k.targets < 9) (clear : clash_after (exclusions ds) side.Own k.targets U s.post q ≡ None)
       (W : List TypedVariable) (z : with_types ds (left_of side.Own (record { call = k; declared = a; written = U }) s q) ≡ Some W) where
     abbrev callee : Callee
     callee = record { call = k; declared = a; written = U }
@@ -159,6 +162,9 @@ module _ (ds : Declarations) (scoped : IsTypedScope (declared ds)) (t : Sequent)
     procedure_there : IsThere (context.procedure c k.procedure)
     procedure_there = let x = target in subst IsThere (sym x.type) tt
 
+    abbrev ex : Exclusions
+    ex = exclusions ds
+
     -- One outcome of the call.
     module _ (g : Setting) (fits : IsSettingOf c g) (over : IsSettingOver (declared ds) g) (j : Judge) (fair : IsFair g j) (v : State) (fit : IsStateOf c g v) (m n : Memory)
         (has_result : IsResult g a.result n) (differs : DifferIn g.types U m (record { globals = n.globals; frame = m.frame })) where
@@ -168,23 +174,26 @@ module _ (ds : Declarations) (scoped : IsTypedScope (declared ds)) (t : Sequent)
       state_there : IsStateOf (outermost c) g v
       state_there = subst (λ d. IsStateOf d g v) outer fit
 
+      off : IsKeptOff ex g
+      off = kept_off ds scoped g over
+
       -- what is to hold after the call stands so to what is said of the outcome
       ends_there : (rel : Rel) (b : Bool) → occurs ≡ b → IsTrueUnder g j (after_where rel b o s.post q) (at v m) → FollowsAt rel (den g j q (at v (returned g k.targets m n))) (den g j s.post (at v n))
       ends_there rel true h x =
-          let S = after_spared side.Own tt k.targets U s.post q true (nothing_least _ clear) _ end_form.typed (λ f. absurd (false≢true (sym f))) in
-          let Z = said_spared side.Own tt k.targets U s.post q true (nothing_least _ clear) _ said_form.typed (λ f. absurd (false≢true (sym f))) in
-          with_result_means c ls a.result W are.1 g fits_there j fair v state_there m n U differs S.readable (globals_alone side.Own tt k.targets U s.post q true W are.0 g S)
-          finite_result k.targets takes many (result_in n) has_result.0 has_result.1 (left_alone side.Own tt k.targets U s.post q true W are.0 g S) (with_result side.Own tt k.targets U s.post q true W are.0 g S)
-          rel s.post q said_form Z.readable Z.within ((λ r p f. alone_local g result_name r f), said_alone side.Own tt k.targets U s.post q true W are.0 g Z)
-          (reads_with_result c ls a.result W are.1 g fits_there j fair v state_there m n finite_result U differs Z.readable (said_read side.Own tt k.targets U s.post q true W are.0 g Z))
+          let S = after_spared side.Own tt k.targets U s.post q true ex (nothing_least _ clear) _ end_form.typed (λ f. absurd (false≢true (sym f))) in
+          let Z = said_spared side.Own tt k.targets U s.post q true ex (nothing_least _ clear) _ said_form.typed (λ f. absurd (false≢true (sym f))) in
+          with_result_means c ls a.result W are.1 g fits_there j fair v state_there m n U differs S.readable (globals_alone side.Own tt k.targets U s.post q true W are.0 g ex off S)
+          finite_result k.targets takes many (result_in n) has_result.0 has_result.1 (left_alone side.Own tt k.targets U s.post q true W are.0 g ex off S) (with_result side.Own tt k.targets U s.post q true W are.0 g ex off S)
+          rel s.post q said_form Z.readable Z.within ((λ r p f. alone_local g result_name r f), said_alone side.Own tt k.targets U s.post q true W are.0 g ex off Z)
+          (reads_with_result c ls a.result W are.1 g fits_there j fair v state_there m n finite_result U differs Z.readable (said_read side.Own tt k.targets U s.post q true W are.0 g ex off Z))
           end_form S.within x
       ends_there rel false h x =
-          let S = after_spared side.Own tt k.targets U s.post q false (nothing_least _ clear) _ end_form.typed (λ f. (result_unread h).1) in
-          let Z = said_spared side.Own tt k.targets U s.post q false (nothing_least _ clear) _ said_form.typed (λ f. (result_unread h).0) in
-          no_result_means c ls a.result W are.1 g fits_there j fair v state_there m n U differs S.readable (globals_alone side.Own tt k.targets U s.post q false W are.0 g S)
-          k.targets (result_in n) (without_result side.Own tt k.targets U s.post q false W are.0 g S refl)
-          rel s.post q said_form Z.readable Z.within (said_alone side.Own tt k.targets U s.post q false W are.0 g Z)
-          (reads_without_result c ls a.result W are.1 g fits_there j fair v state_there m n finite_result U differs Z.readable (said_read side.Own tt k.targets U s.post q false W are.0 g Z) (no_result side.Own tt k.targets U s.post q false W are.0 g Z refl))
+          let S = after_spared side.Own tt k.targets U s.post q false ex (nothing_least _ clear) _ end_form.typed (λ f. (result_unread h).1) in
+          let Z = said_spared side.Own tt k.targets U s.post q false ex (nothing_least _ clear) _ said_form.typed (λ f. (result_unread h).0) in
+          no_result_means c ls a.result W are.1 g fits_there j fair v state_there m n U differs S.readable (globals_alone side.Own tt k.targets U s.post q false W are.0 g ex off S)
+          k.targets (result_in n) (without_result side.Own tt k.targets U s.post q false W are.0 g ex off S refl)
+          rel s.post q said_form Z.readable Z.within (said_alone side.Own tt k.targets U s.post q false W are.0 g ex off Z)
+          (reads_without_result c ls a.result W are.1 g fits_there j fair v state_there m n finite_result U differs Z.readable (said_read side.Own tt k.targets U s.post q false W are.0 g ex off Z) (no_result side.Own tt k.targets U s.post q false W are.0 g ex off Z refl))
           end_form S.within x
 
     abbrev routine_in : (g : Setting) → IsSettingOf c g → Routine
@@ -380,16 +389,16 @@ module _ (ds : Declarations) (scoped : IsTypedScope (declared ds)) (t : Sequent)
       abbrev this : Callee
       this = record { call = k; declared = a; written = U }
 
-      by_left : (many : length k.targets < 9) → clash_after side.Own k.targets U s.post q ≡ None → (r : Option (List TypedVariable)) → with_types ds (left_of side.Own this s q) ≡ r → by_globals this s p q r ≡ given Gs → Result
+      by_left : (many : length k.targets < 9) → clash_after (exclusions ds) side.Own k.targets U s.post q ≡ None → (r : Option (List TypedVariable)) → with_types ds (left_of side.Own this s q) ≡ r → by_globals this s p q r ≡ given Gs → Result
       by_left many clear None z i = refused_given Shape Gs i
       by_left many clear (Some W) z i = given_sound outer ls is q w.0 w.2 k last y a e U u many clear W z rs p w Gs i
 
-      by_clash : (many : length k.targets < 9) → (r : Option Var) → clash_after side.Own k.targets U s.post q ≡ r → unless_clash r (by_globals this s p q (with_types ds (left_of side.Own this s q))) ≡ given Gs → Result
+      by_clash : (many : length k.targets < 9) → (r : Option Var) → clash_after (exclusions ds) side.Own k.targets U s.post q ≡ r → unless_clash r (by_globals this s p q (with_types ds (left_of side.Own this s q))) ≡ given Gs → Result
       by_clash many (Some x) clear i = refused_given (SideCondition x) Gs i
       by_clash many None clear i = by_left many clear (with_types ds (left_of side.Own this s q)) refl i
 
-      by_many : (b : Bool) → nat_lt (length k.targets) 9 ≡ b → (if b then unless_clash (clash_after side.Own k.targets U s.post q) (by_globals this s p q (with_types ds (left_of side.Own this s q))) else refusing Shape) ≡ given Gs → Result
-      by_many true h i = by_clash (few k.targets h) (clash_after side.Own k.targets U s.post q) refl i
+      by_many : (b : Bool) → nat_lt (length k.targets) 9 ≡ b → (if b then unless_clash (clash_after (exclusions ds) side.Own k.targets U s.post q) (by_globals this s p q (with_types ds (left_of side.Own this s q))) else refusing Shape) ≡ given Gs → Result
+      by_many true h i = by_clash (few k.targets h) (clash_after (exclusions ds) side.Own k.targets U s.post q) refl i
       by_many false h i = refused_given Shape Gs i
 
     by_procedure : (k : LastCall) → last_call is ≡ Some k → IsContract c s (Some k) → (r : Option Proc) → procedure_of ds k.procedure ≡ r → (o : Option (List Var)) → written ds k.procedure ≡ o →
@@ -411,19 +420,19 @@ module _ (ds : Declarations) (scoped : IsTypedScope (declared ds)) (t : Sequent)
       abbrev caller : Callee
       caller = record { call = k; declared = a; written = U }
 
-      chances_left : (many : length k.targets < 9) → clash_after side.Own k.targets U s.post q ≡ None → (r : Option (List TypedVariable)) → with_types ds (left_of side.Own caller s q) ≡ r →
+      chances_left : (many : length k.targets < 9) → clash_after (exclusions ds) side.Own k.targets U s.post q ≡ None → (r : Option (List TypedVariable)) → with_types ds (left_of side.Own caller s q) ≡ r →
           chances_by_globals ds caller s l p q b r ≡ given Gs → Chances
       chances_left many clear None z i = refused_given Shape Gs i
       chances_left many clear (Some W) z i = chances_sound outer ls is q w.0 w.2 k last y a e U u many clear W z rs l p b w Gs (first_loss ds k.before) refl i
 
-      chances_clash : (many : length k.targets < 9) → (r : Option Var) → clash_after side.Own k.targets U s.post q ≡ r →
+      chances_clash : (many : length k.targets < 9) → (r : Option Var) → clash_after (exclusions ds) side.Own k.targets U s.post q ≡ r →
           unless_clash r (chances_by_globals ds caller s l p q b (with_types ds (left_of side.Own caller s q))) ≡ given Gs → Chances
       chances_clash many (Some x) clear i = refused_given (SideCondition x) Gs i
       chances_clash many None clear i = chances_left many clear (with_types ds (left_of side.Own caller s q)) refl i
 
       chances_many : (f : Bool) → nat_lt (length k.targets) 9 ≡ f →
-          (if f then unless_clash (clash_after side.Own k.targets U s.post q) (chances_by_globals ds caller s l p q b (with_types ds (left_of side.Own caller s q))) else refusing Shape) ≡ given Gs → Chances
-      chances_many true h i = chances_clash (few k.targets h) (clash_after side.Own k.targets U s.post q) refl i
+          (if f then unless_clash (clash_after (exclusions ds) side.Own k.targets U s.post q) (chances_by_globals ds caller s l p q b (with_types ds (left_of side.Own caller s q))) else refusing Shape) ≡ given Gs → Chances
+      chances_many true h i = chances_clash (few k.targets h) (clash_after (exclusions ds) side.Own k.targets U s.post q) refl i
       chances_many false h i = refused_given Shape Gs i
 
     chances_procedure : (k : LastCall) → last_call is ≡ Some k → IsContract c s (Some k) → (r : Option Proc) → procedure_of ds k.procedure ≡ r → (o : Option (List Var)) → written ds k.procedure ≡ o →

@@ -38,7 +38,7 @@ use Rattle.gb_laws.specs.Finite.{IsFinite}
 use Rattle.gb_laws.specs.Programs.{Take}
 use Rattle.gb_holds.specs.Declared.{declared}
 use Rattle.gb_goal.specs.declared.sequent.Sequent.{Sequent}
-use Rattle.gb_goal.specs.Scope.{Declarations, module_of, procedure_of}
+use Rattle.gb_goal.specs.Scope.{Declarations, procedure_of}
 use Rattle.gb_typing.specs.Context.{Context, erased, of_program}
 use Rattle.gb_typing.specs.Context as context
 use Rattle.gb_typing.specs.Fits.{IsSettingOf}
@@ -60,9 +60,10 @@ use Rattle.gb_prog.specs.Calls.{called_from}
 use Rattle.gb_prog.specs.Writes.{DifferIn, TypedVariable, AreIn, variables}
 use Rattle.gb_prog.proofs.Calls.{arguments_typed as values_typed, called_outcomes}
 use Rattle.gb_mods.specs.Written.{written}
+use Rattle.gb_adversaries.proofs.Meanings.{means_there}
 use Rattle.gb_call.specs.LastCall.{LastCall, last_call}
-use Rattle.gb_call.specs.Written.{type_in, typed_before, with_types}
-use Rattle.gb_call.proofs.Globals.{global_there}
+use Rattle.gb_call.specs.Written.{global_type, typed_before, with_types}
+use Rattle.gb_call.proofs.Globals.{variable_there}
 use Rattle.gb_call.proofs.LastCalls.{IsCalled, called_typed}
 use Rattle.gb_call.proofs.Unwritten.{procedure_left}
 
@@ -127,9 +128,9 @@ never_both false = refl
 
 -- a local clashes with no other variable
 pub alone_local : (g : Setting) (x : Name) (y : Var) → (var.Local x ≡ y → ⊥) → clash g (var.Local x) y ≡ false
-alone_local g x (var.Local y) n = alone g (var.Local x) (var.Local y) (never_both (var_eq (var.Local x) (var.Local y))) n
-alone_local g x (var.Global m y) n = alone g (var.Local x) (var.Global m y) (never (var_eq (var.Local x) (var.Global m y))) n
-alone_local g x (var.Glob a) n = alone g (var.Local x) (var.Glob a) (never (var_eq (var.Local x) (var.Glob a))) n
+alone_local g x (var.Local y) n = alone g [] tt (var.Local x) (var.Local y) (never_both (var_eq (var.Local x) (var.Local y))) n
+alone_local g x (var.Global m y) n = alone g [] tt (var.Local x) (var.Global m y) (never (var_eq (var.Local x) (var.Global m y))) n
+alone_local g x (var.Glob a) n = alone g [] tt (var.Local x) (var.Glob a) (never (var_eq (var.Local x) (var.Glob a))) n
 
 pub few : (xs : List Var) → nat_lt (length xs) 9 ≡ true → length xs < 9
 few xs h = ltb-true (length xs) 9 h
@@ -149,20 +150,17 @@ module _ (ds : Declarations) (scoped : IsTypedScope (declared ds)) (t : Sequent)
   -- globals with their types stand in the context
   pub typed_with : (xs : List Var) (W : List TypedVariable) → with_types ds xs ≡ Some W → (variables W ≡ xs) × AreIn (outermost c) (Some []) W
   typed_with [] W e = subst (λ V. (variables V ≡ []) × AreIn (outermost c) (Some []) V) (same_Some [] W e) (refl, tt)
-  typed_with (var.Local x ∷ xs) W e = absurd (none-some W e)
-  typed_with (var.Glob a ∷ xs) W e = absurd (none-some W e)
-  typed_with (var.Global n x ∷ xs) W e = by_type (λ V k. typed_with xs V k) (type_in (module_of ds n) x) refl (with_types ds xs) refl e
+  typed_with (x ∷ xs) W e = by_type (λ V k. typed_with xs V k) (global_type ds x) refl (with_types ds xs) refl e
     where
       by_type : ((V : List TypedVariable) → with_types ds xs ≡ Some V → (variables V ≡ xs) × AreIn (outermost c) (Some []) V) →
-          (o : Option Ty) → type_in (module_of ds n) x ≡ o → (r : Option (List TypedVariable)) → with_types ds xs ≡ r → typed_before (var.Global n x) o r ≡ Some W →
-          (variables W ≡ var.Global n x ∷ xs) × AreIn (outermost c) (Some []) W
+          (o : Option Ty) → global_type ds x ≡ o → (r : Option (List TypedVariable)) → with_types ds xs ≡ r → typed_before x o r ≡ Some W →
+          (variables W ≡ x ∷ xs) × AreIn (outermost c) (Some []) W
       by_type behind None d r k e = absurd (none-some W e)
       by_type behind (Some u) d None k e = absurd (none-some W e)
       by_type behind (Some u) d (Some V) k e =
-          let z = global_there ds scoped t typed.frames n x u d in
           let rest = behind V k in
-          subst (λ V. (variables V ≡ var.Global n x ∷ xs) × AreIn (outermost c) (Some []) V) (same_Some (record { variable = var.Global n x; ty = u } ∷ V) W e)
-          (ap (λ l. var.Global n x ∷ l) rest.0, (((tt, z.0), z.1), rest.1))
+          subst (λ V. (variables V ≡ x ∷ xs) × AreIn (outermost c) (Some []) V) (same_Some (record { variable = x; ty = u } ∷ V) W e)
+          (ap (λ l. x ∷ l) rest.0, (variable_there ds scoped t typed.frames x u d, rest.1))
 
   -- a call that ends a body
   module _ (outer : c ≡ outermost c) (ls : List TypedName) (is : List Instr) (typed_body : IsBody c ls is) (k : LastCall) (last : last_call is ≡ Some k)
@@ -210,7 +208,7 @@ module _ (ds : Declarations) (scoped : IsTypedScope (declared ds)) (t : Sequent)
           ap (run_denominator g) (l.program g ∙ ap (λ r. called k.targets r k.arguments done) is_routine) ∙ mul-one (routine_denominator g (routine_in g fits))
 
       left : (x : Path) → Spares g.types U (global x) → UnwrittenBy g (routine_in g fits) (global x)
-      left x i = procedure_left g x ds (linked g over) k.procedure U u i (routine_in g fits) is_routine
+      left x i = procedure_left g x ds (means_there ds scoped g over) k.procedure U u i (routine_in g fits) is_routine
 
       -- the outcomes of which the procedure's judgment speaks
       pub judged_outcomes : (v : State) (n : Memory) → from_frame g (g.procedure k.procedure) (called_from (routine_in g fits) (argument_values g v n) n.globals) ≡ outcomes g (routine_in g fits) (argument_values g v n) n.globals

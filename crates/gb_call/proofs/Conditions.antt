@@ -9,7 +9,7 @@ use Rattle.gb_terms.specs.declared.op.Side.{Side}
 use Rattle.gb_terms.specs.declared.term.Term.{Term}
 use Rattle.gb_terms.specs.Equal.{var_eq}
 use Rattle.gb_terms.proofs.Equality.{side_eq-Decides, var_eq-Decides}
-use Rattle.gb_walk.specs.Clash.{comes_before, first_clash, least, least_from, variables_read}
+use Rattle.gb_walk.specs.Clash.{Exclusions, comes_before, first_clash, least, least_from, variables_read}
 use Rattle.gb_meaning.specs.Memory.{result_name}
 use Rattle.gb_meaning.specs.Setting.{Setting}
 use Rattle.gb_laws.specs.Uses.{Uses, IsWithin}
@@ -18,7 +18,7 @@ use Rattle.gb_typing.specs.Context.{Context}
 use Rattle.gb_typing.specs.Puts.{Readable, reading}
 use Rattle.gb_typing.specs.Typing.{IsTyped}
 use Rattle.gb_typing.proofs.Both.{within_both}
-use Rattle.gb_typing.specs.Forms.{IsAlone}
+use Rattle.gb_typing.specs.Forms.{IsAlone, IsKeptOff}
 use Rattle.gb_typing.proofs.Spared.{Clear, spared_variables, spared_within}
 use Rattle.gb_prog.specs.Writes.{IsApart, IsOneOf, TypedVariable, variables}
 use Rattle.gb_parts.specs.Assigned.{is_clashing}
@@ -51,9 +51,9 @@ append_none : (xs : List Var) → xs ++ [] ≡ xs
 append_none [] = refl
 append_none (x ∷ xs) = ap (λ l. x ∷ l) (append_none xs)
 
-no_clash : (r : Side) (f : Term) (xs : List Var) → AllFalse (is_clashing r f) xs → NoClash r f xs
-no_clash r f [] h = tt
-no_clash r f (x ∷ xs) h = (by_option (first_clash r x f) h.0, no_clash r f xs h.1)
+no_clash : (es : Exclusions) (r : Side) (f : Term) (xs : List Var) → AllFalse (is_clashing es r f) xs → NoClash es r f xs
+no_clash es r f [] h = tt
+no_clash es r f (x ∷ xs) h = (by_option (first_clash es r x f) h.0, no_clash es r f xs h.1)
   where
     by_option : (o : Option Var) → is_some o ≡ false → o ≡ None
     by_option None e = refl
@@ -63,13 +63,13 @@ pub either_false : (a b : Bool) → (a || b) ≡ false → (a ≡ false) × (b �
 either_false true b e = absurd (false≢true (sym e))
 either_false false b e = (refl, e)
 
-each_of_both : (r : Side) (said f : Term) (xs : List Var) → AllFalse (is_clashing_after r said f) xs → AllFalse (is_clashing r said) xs × AllFalse (is_clashing r f) xs
-each_of_both r said f [] h = (tt, tt)
-each_of_both r said f (x ∷ xs) h = let z = either_false _ _ h.0 in let w = each_of_both r said f xs h.1 in ((z.0, w.0), (z.1, w.1))
+each_of_both : (es : Exclusions) (r : Side) (said f : Term) (xs : List Var) → AllFalse (is_clashing_after es r said f) xs → AllFalse (is_clashing es r said) xs × AllFalse (is_clashing es r f) xs
+each_of_both es r said f [] h = (tt, tt)
+each_of_both es r said f (x ∷ xs) h = let z = either_false _ _ h.0 in let w = each_of_both es r said f xs h.1 in ((z.0, w.0), (z.1, w.1))
 
-no_clashes : (r : Side) (f : Term) (xs ys : List Var) → NoClash r f xs → NoClash r f ys → NoClash r f (xs ++ ys)
-no_clashes r f [] ys h k = k
-no_clashes r f (x ∷ xs) ys h k = (h.0, no_clashes r f xs ys h.1 k)
+no_clashes : (es : Exclusions) (r : Side) (f : Term) (xs ys : List Var) → NoClash es r f xs → NoClash es r f ys → NoClash es r f (xs ++ ys)
+no_clashes es r f [] ys h k = k
+no_clashes es r f (x ∷ xs) ys h k = (h.0, no_clashes es r f xs ys h.1 k)
 
 -- membership
 
@@ -159,21 +159,21 @@ both_false : (a b : Bool) → a ≡ false → b ≡ false → (a || b) ≡ false
 both_false a b p q = λ i. p i || q i
 
 -- In this memory a form reads variables alone with which none of these clashes, and none of which T is so.
-pub record IsSpared (r : Side) (f : Term) (zs : List Var) (T : Var → Bool) : Type 0 where
+pub record IsSpared (es : Exclusions) (r : Side) (f : Term) (zs : List Var) (T : Var → Bool) : Type 0 where
   pub readable : Readable
   pub within : IsWithin (reading readable) f
-  pub alone : (g : Setting) → EachAlone g (readable r) zs
+  pub alone : (g : Setting) → IsKeptOff es g → EachAlone g (readable r) zs
   pub spared : (y : Var) → readable r y ≡ true → T y ≡ false
 
-is_spared : (r : Side) (is : IsSide r) (c : Context) (f : Term) → IsTyped c f → (zs : List Var) → NoClash r f zs → (T : Var → Bool) → Clear r is T (variables_read r f) → IsSpared r f zs T
-is_spared r is c f w zs n T k =
-    let one = all_clear c f w r is zs n in
+is_spared : (es : Exclusions) (r : Side) (is : IsSide r) (c : Context) (f : Term) → IsTyped c f → (zs : List Var) → NoClash es r f zs → (T : Var → Bool) → Clear r is T (variables_read r f) → IsSpared es r f zs T
+is_spared es r is c f w zs n T k =
+    let one = all_clear es c f w r is zs n in
     let P : Readable = one.0 in
     let Q : Readable = spared_variables r is T in
     record {
       readable = λ s y. P s y && Q s y;
       within = subst (λ (K : Uses). IsWithin K f) (λ i u. in_both P Q u i) (within_both (reading P) (reading Q) f one.1 (spared_within r is T c f w k));
-      alone = λ g. fewer g (λ y. P r y && Q r y) (P r) (λ y p. (and_parts (P r y) (Q r y) p).0) zs (one.2 g);
+      alone = λ g o. fewer g (λ y. P r y && Q r y) (P r) (λ y p. (and_parts (P r y) (Q r y) p).0) zs (one.2 g o);
       spared = λ y p. not_true (T y) (subst (λ b. not (b && T y) ≡ true) ((side_eq-Decides r r).1 refl) (and_parts (P r y) (Q r y) p).1);
     }
 
@@ -219,18 +219,18 @@ module _ (r : Side) (is : IsSide r) (xs U : List Var) (said f : Term) (occurs : 
       at_result y e false true i j = absurd (false≢true (sym (h i) ∙ ap (is_read r said) ((var_eq-Decides (Local result_name) y).0 j) ∙ e))
 
   -- No clash is found.
-  module _ (clash : clashing_after r xs U said f ≡ []) where
-    nothing : AllFalse (is_clashing r f) xs × (filter (is_clashing_after r said f) U ≡ [])
-    nothing = nothing_filtered (is_clashing r f) xs (filter (is_clashing_after r said f) U) clash
+  module _ (es : Exclusions) (clash : clashing_after es r xs U said f ≡ []) where
+    nothing : AllFalse (is_clashing es r f) xs × (filter (is_clashing_after es r said f) U ≡ [])
+    nothing = nothing_filtered (is_clashing es r f) xs (filter (is_clashing_after es r said f) U) clash
 
-    of_globals : AllFalse (is_clashing r said) U × AllFalse (is_clashing r f) U
-    of_globals = each_of_both r said f U (nothing_filtered (is_clashing_after r said f) U [] (append_none _ ∙ nothing.1)).0
+    of_globals : AllFalse (is_clashing es r said) U × AllFalse (is_clashing es r f) U
+    of_globals = each_of_both es r said f U (nothing_filtered (is_clashing_after es r said f) U [] (append_none _ ∙ nothing.1)).0
 
-    pub after_spared : (c : Context) → IsTyped c f → (occurs ≡ false → list_any (is_read r f) xs ≡ false) → IsSpared r f (xs ++ U) unread_after
-    after_spared c w h = is_spared r is c f w (xs ++ U) (no_clashes r f xs U (no_clash r f xs nothing.0) (no_clash r f U of_globals.1)) unread_after (clear_after h)
+    pub after_spared : (c : Context) → IsTyped c f → (occurs ≡ false → list_any (is_read r f) xs ≡ false) → IsSpared es r f (xs ++ U) unread_after
+    after_spared c w h = is_spared es r is c f w (xs ++ U) (no_clashes es r f xs U (no_clash es r f xs nothing.0) (no_clash es r f U of_globals.1)) unread_after (clear_after h)
 
-    pub said_spared : (c : Context) → IsTyped c said → (occurs ≡ false → is_read r said (Local result_name) ≡ false) → IsSpared r said U unread_said
-    said_spared c w h = is_spared r is c said w U (no_clash r said U of_globals.0) unread_said (clear_said h)
+    pub said_spared : (c : Context) → IsTyped c said → (occurs ≡ false → is_read r said (Local result_name) ≡ false) → IsSpared es r said U unread_said
+    said_spared c w h = is_spared es r is c said w U (no_clash es r said U of_globals.0) unread_said (clear_said h)
 
   -- these are the globals that are read, with their types
   module _ (W : List TypedVariable) (are : variables W ≡ left) where
@@ -248,12 +248,12 @@ module _ (r : Side) (is : IsSide r) (xs U : List Var) (said f : Term) (occurs : 
     also_true true false e i = absurd (false≢true (sym e))
     also_true false d e i = absurd (false≢true i)
 
-    module _ (g : Setting) (S : IsSpared r f (xs ++ U) unread_after) where
+    module _ (g : Setting) (es : Exclusions) (off : IsKeptOff es g) (S : IsSpared es r f (xs ++ U) unread_after) where
       abbrev P : Readable
       P = S.readable
 
       alone_here : EachAlone g (P r) xs × EachAlone g (P r) U
-      alone_here = alone_append g (P r) xs U (S.alone g)
+      alone_here = alone_append g (P r) xs U (S.alone g off)
 
       pub left_alone : AllByRecursion (λ x. IsAlone g x (P r)) xs
       left_alone = all_alone g (P r) xs alone_here.0
@@ -280,19 +280,19 @@ module _ (r : Side) (is : IsSide r) (xs U : List Var) (said f : Term) (occurs : 
           let n : is_among xs y ≡ false = subst (λ b. (not b && is_among xs y) ≡ false) o (either_false _ _ (S.spared y p)).1 in
           (apart_from g (P r) xs y p n alone_here.0, global_read y p n)
 
-    module _ (g : Setting) (S : IsSpared r said U unread_said) where
+    module _ (g : Setting) (es : Exclusions) (off : IsKeptOff es g) (S : IsSpared es r said U unread_said) where
       abbrev Q : Readable
       Q = S.readable
 
       pub said_alone : AllByRecursion (λ w. IsAlone g w.variable (Q r)) W
-      said_alone = alone_variables g (Q r) W (subst (λ l. AllByRecursion (λ x. IsAlone g x (Q r)) l) (sym are) (alone_filter g (Q r) (is_left r xs said f) U (S.alone g)))
+      said_alone = alone_variables g (Q r) W (subst (λ l. AllByRecursion (λ x. IsAlone g x (Q r)) l) (sym are) (alone_filter g (Q r) (is_left r xs said f) U (S.alone g off)))
 
       pub said_read : (y : Var) → Q r y ≡ true → IsApart g U y ⊎ IsOneOf y W
       said_read y p = by_test (is_among U y) refl
         where
           by_test : (b : Bool) → is_among U y ≡ b → IsApart g U y ⊎ IsOneOf y W
           by_test true e = inr (left_of y (also_true (is_among U y) (is_among left y) (either_false _ _ (S.spared y p)).0 e))
-          by_test false e = inl (apart_from g (Q r) U y p e (S.alone g))
+          by_test false e = inl (apart_from g (Q r) U y p e (S.alone g off))
 
       pub no_result : occurs ≡ false → Q r (Local result_name) ≡ true → ⊥
       no_result o p =

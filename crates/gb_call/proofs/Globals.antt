@@ -1,11 +1,14 @@
--- The globals of declared modules in the context of a goal.
-use Rattle.std.proofs.Common.{◌≡◌, Bool, true, false, if◌then◌else◌, List, [], ◌∷◌, ◌++◌, Option, Some, None, bytes_eq, refl, ap, ◌∙◌, subst}
+-- The globals of declared modules, and all those of abstract modules, in the context of a goal.
+use Rattle.std.proofs.Common.{◌≡◌, Bool, true, false, if◌then◌else◌, List, [], ◌∷◌, ◌++◌, Option, Some, None, is_some, bytes_eq, refl, ap, sym, ◌∙◌, subst}
 use Rattle.gb_core.specs.declared.ty.Ty.{Ty}
+use Rattle.gb_core.specs.declared.ty.Ty.TheVariants as ty
+use Rattle.gb_core.specs.declared.var.Var.{Var}
+use Rattle.gb_core.specs.declared.var.Var.TheVariants as var
 use Rattle.gb_terms.specs.declared.decl.Module.{Module}
 use Rattle.gb_terms.specs.declared.decl.TypedName.{TypedName}
 use Rattle.gb_terms.specs.declared.module.Bind.{Bind}
 use Rattle.gb_goal.specs.Scope as scope
-use Rattle.gb_goal.specs.Scope.{entry_of, as_module, module_of}
+use Rattle.gb_goal.specs.Scope.{abstract_of, entry_of, as_module, module_of}
 use Rattle.gb_goal.specs.declared.scope.Entry.{Entry}
 use Rattle.gb_goal.specs.declared.scope.Entry.TheVariants as entry
 use Rattle.gb_goal.specs.declared.sequent.Sequent.{Sequent}
@@ -16,12 +19,15 @@ use Rattle.gb_holds.specs.Declared.{Declarations, declaration_of, declared, conc
 use Rattle.gb_typing.specs.Context.{Context}
 use Rattle.gb_typing.specs.Programs.{HaveVariableTypes}
 use Rattle.gb_typing.specs.Formulas.{with_module}
+use Rattle.gb_typing.specs.Rules.{outermost}
 use Rattle.gb_typing.specs.Sequents.{of_sequent, with_modules}
 use Rattle.gb_typing.specs.Scopes.{nothing, with_declared, with_each, context_of, is_declared, AreTypedAfter, IsTypedScope}
+use Rattle.gb_typing.specs.Typing.{IsIn}
 use Rattle.gb_typing.proofs.Operators.{declared_more, declared_last, other_name}
 use Rattle.gb_typing.proofs.Scripts.{none_some, same_some}
+use Rattle.gb_typing.proofs.Together.{goal_together}
 use Rattle.gb_typing.proofs.Variables.{variable_finite}
-use Rattle.gb_call.specs.Written.{type_in}
+use Rattle.gb_call.specs.Written.{glob_type, global_type, type_in}
 
 -- what is declared later leaves the globals of the modules that are declared
 stays : (ds : scope.Declarations) (before : Declarations) (c : Context) (n : Name) → is_declared before n ≡ true → AreTypedAfter c before (declared ds) → (x : Name) → (with_each c (declared ds)).global n x ≡ c.global n x
@@ -86,7 +92,7 @@ pub globals_left : (c : Context) (bs : List Bind) → (with_modules c bs).global
 globals_left c [] = refl
 globals_left c (b ∷ bs) = globals_left (with_module c b) bs
 
-pub global_there : (ds : scope.Declarations) → IsTypedScope (declared ds) → (q : Sequent) (fs : List (List TypedName)) (n x : Name) (t : Ty) → type_in (module_of ds n) x ≡ Some t →
+global_there : (ds : scope.Declarations) → IsTypedScope (declared ds) → (q : Sequent) (fs : List (List TypedName)) (n x : Name) (t : Ty) → type_in (module_of ds n) x ≡ Some t →
     ((of_sequent (context_of (declared ds)) q fs).global n x ≡ Some t) × IsFinite t
 global_there ds w q fs n x t e = by_entry (entry_of ds n) refl e
   where
@@ -96,3 +102,17 @@ global_there ds w q fs n x t e = by_entry (entry_of ds n) refl e
         let s = stands ds [] nothing w n m i in
         (ap (λ f. f n x) (globals_left (context_of (declared ds)) q.modules) ∙ s.globals x ∙ h, finite_there m.globals s.types x t h)
     by_entry (Some _) i h = none_some t h
+
+-- all globals of an abstract module are of a type of their own
+whole_there : (ds : scope.Declarations) → IsTypedScope (declared ds) → (q : Sequent) (fs : List (List TypedName)) (a : Name) (o : Option Bind) → abstract_of ds a ≡ o → (t : Ty) → glob_type a o ≡ Some t →
+    ((of_sequent (context_of (declared ds)) q fs).has_globals a ≡ true) × (t ≡ ty.Glob a)
+whole_there ds w q fs a None i t e = none_some t e
+whole_there ds w q fs a (Some b) i t e =
+    (goal_together ds w a q fs (ap is_some i), sym (same_some (ty.Glob a) t e))
+
+-- a variable of which the type is known may be read at it, and its values are finite
+pub variable_there : (ds : scope.Declarations) → IsTypedScope (declared ds) → (q : Sequent) (fs : List (List TypedName)) (x : Var) (t : Ty) → global_type ds x ≡ Some t →
+    IsIn (outermost (of_sequent (context_of (declared ds)) q fs)) (Some []) x t × IsFinite t
+variable_there ds w q fs (var.Local x) t e = none_some t e
+variable_there ds w q fs (var.Global n x) t e = let z = global_there ds w q fs n x t e in ((tt, z.0), z.1)
+variable_there ds w q fs (var.Glob a) t e = let z = whole_there ds w q fs a (abstract_of ds a) refl t e in ((tt, z.0, z.1), subst IsFinite (sym z.1) refl)

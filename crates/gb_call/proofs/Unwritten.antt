@@ -6,7 +6,6 @@ use Rattle.std.specs.List.{AllByRecursion}
 use Rattle.std.specs.Option.{option_map}
 use Rattle.gb_core.specs.declared.var.Var.{Var}
 use Rattle.gb_core.specs.declared.var.Var.TheVariants as var
-use Rattle.gb_terms.specs.declared.decl.Proc.{Proc}
 use Rattle.gb_terms.specs.declared.module.ProcRef.{ProcRef}
 use Rattle.gb_terms.specs.declared.term.Head.TheVariants.{Assign, Sample, Call', If', While'}
 use Rattle.gb_terms.specs.declared.term.Instr.{Instr, Row_of-Instr, end_of-Instr, more_of-Instr}
@@ -17,7 +16,6 @@ use Rattle.gb_walk.specs.Clash.{comes_before}
 use Rattle.gb_meaning.specs.Commands.{called, program_of, statements}
 use Rattle.gb_meaning.specs.Names.{Path}
 use Rattle.gb_meaning.specs.Program.{Program, Routine}
-use Rattle.gb_meaning.specs.Program.Program.{done, assign, sample, branch, loop, call, ask}
 use Rattle.gb_meaning.specs.Program.Routine.{routine}
 use Rattle.gb_meaning.specs.Setting.{Setting}
 use Rattle.gb_meaning.specs.Values.{Types}
@@ -25,11 +23,19 @@ use Rattle.gb_laws.specs.Cells.{Key}
 use Rattle.gb_laws.specs.Cells.Key.{global, local}
 use Rattle.gb_laws.specs.Writes.{keys_of, IsNone, Spares, Unwritten, UnwrittenBy}
 use Rattle.gb_holds.specs.Footprints.{globals_among}
-use Rattle.gb_goal.specs.Scope.{Declarations, procedure_of}
+use Rattle.gb_goal.specs.Scope.{Declarations}
 use Rattle.gb_mods.specs.Called.{all_reached, called_by, row_calls, calls}
 use Rattle.gb_mods.specs.Order.{placed, joined}
-use Rattle.gb_mods.specs.Written.{row_targets, targets, with_written, written, written_by, written_if}
+use Rattle.gb_mods.specs.Meant.{in_front, meant_by}
+use Rattle.gb_mods.specs.Written.{row_targets, targets, written, written_by, written_if, written_itself}
+use Rattle.gb_mods.specs.declared.meant.Meant.{Meant}
+use Rattle.gb_mods.specs.declared.meant.Meant.TheVariants.{Unknown, Declared, Any}
 use Rattle.gb_mods.proofs.Closed.{AreFollowed, IsIn, all_closed}
+use Rattle.gb_adversaries.specs.AnyOf.{IfOneOf}
+use Rattle.gb_adversaries.specs.Carried.{EachCarried, EachCarriedBy}
+use Rattle.gb_adversaries.specs.Means.{Means}
+use Rattle.gb_adversaries.proofs.Carried.{each_procedure}
+use Rattle.gb_adversaries.proofs.Writing.{writes_of_any}
 use mathlib.Core.Former.{Count}
 
 -- what is spared by several lists of variables
@@ -52,28 +58,24 @@ module _ (t : Types) (k : Key) where
   spares_joined [] ys h = (tt, h)
   spares_joined (x ∷ xs) ys h = let z = spares_placed x (joined xs ys) h in let w = spares_joined xs ys z.1 in ((z.0, w.0), w.1)
 
+  -- it is known what is written, and the place is spared
+  abbrev AreSpared : Option (List Var) → Type 0
+  AreSpared None = ⊥
+  AreSpared (Some xs) = Spares t xs k
+
+  spared_front : (o r : Option (List Var)) → AreSpared (in_front o r) → AreSpared o × AreSpared r
+  spared_front None r h = absurd h
+  spared_front (Some xs) None h = absurd h
+  spared_front (Some xs) (Some ys) h = spares_append xs ys h
+
   -- what each of these procedures writes itself is spared where all that they write is
-  record IsDeclared (ds : Declarations) (p : ProcRef) : Type 0 where
-    found : Proc
-    declared : procedure_of ds p ≡ Some found
-    spared : Spares t (globals_among (targets found.body.list)) k
-
-  written_each : (ds : Declarations) (ps : List ProcRef) (xs : List Var) → written_by ds ps ≡ Some xs → Spares t xs k → (p : ProcRef) → IsIn ps p → IsDeclared ds p
-  written_each ds [] xs e s p i = absurd i
-  written_each ds (q ∷ ps) xs e s p i = by_parts (λ ys c. written_each ds ps ys c) (procedure_of ds q) refl (written_by ds ps) refl e i
+  written_each : (ds : Declarations) (ps : List ProcRef) → AreSpared (written_by ds ps) → (p : ProcRef) → IsIn ps p → AreSpared (written_itself (meant_by ds p))
+  written_each ds [] s p i = absurd i
+  written_each ds (q ∷ ps) s p i = let z = spared_front (written_itself (meant_by ds q)) (written_by ds ps) s in by_place z.0 (written_each ds ps z.1 p) i
     where
-      by_parts : ((ys : List Var) → written_by ds ps ≡ Some ys → Spares t ys k → (p : ProcRef) → IsIn ps p → IsDeclared ds p) →
-          (o : Option Proc) → procedure_of ds q ≡ o → (r : Option (List Var)) → written_by ds ps ≡ r → with_written o r ≡ Some xs → IsIn (q ∷ ps) p → IsDeclared ds p
-      by_parts behind None d r c e i = absurd (none-some xs e)
-      by_parts behind (Some a) d None c e i = absurd (none-some xs e)
-      by_parts behind (Some a) d (Some ys) c e i = by_place i
-        where
-          both : Spares t (globals_among (targets a.body.list)) k × Spares t ys k
-          both = spares_append (globals_among (targets a.body.list)) ys (subst (λ z. Spares t z k) (sym (same_Some (globals_among (targets a.body.list) ++ ys) xs e)) s)
-
-          by_place : IsIn (q ∷ ps) p → IsDeclared ds p
-          by_place (inl f) = subst (IsDeclared ds) f (record { found = a; declared = d; spared = both.0 })
-          by_place (inr f) = behind ys c both.1 p f
+      by_place : AreSpared (written_itself (meant_by ds q)) → (IsIn ps p → AreSpared (written_itself (meant_by ds p))) → IsIn (q ∷ ps) p → AreSpared (written_itself (meant_by ds p))
+      by_place h behind (inl f) = subst (λ z. AreSpared (written_itself (meant_by ds z))) f h
+      by_place h behind (inr f) = behind f
 
 -- A place of a global that no statement of a list names.
 module _ (g : Setting) (x : Path) where
@@ -87,17 +89,11 @@ module _ (g : Setting) (x : Path) where
   module _ (S : List ProcRef) where
     -- a routine that stands for one of them leaves the place
     abbrev IsGood : Routine → Type 0
-    IsGood r = (p : ProcRef) → IsIn S p → g.procedure p ≡ Some r → UnwrittenBy g r k
+    IsGood = IfOneOf g S (λ r. UnwrittenBy g r k)
 
-    -- so does each that a program calls
+    -- so does each that a program carries
     abbrev CallsGood : Program → Type 0
-    CallsGood done = Unit {0}
-    CallsGood (assign xs e c) = CallsGood c
-    CallsGood (sample y d c) = CallsGood c
-    CallsGood (branch e a b c) = CallsGood a × CallsGood b × CallsGood c
-    CallsGood (loop e v a c) = CallsGood a × CallsGood c
-    CallsGood (call xs r es c) = IsGood r × CallsGood c
-    CallsGood (ask xs o es c) = CallsGood c
+    CallsGood = EachCarried IsGood
 
     abbrev AreThere : List ProcRef → Type 0
     AreThere ps = AllByRecursion (IsIn S) ps
@@ -108,7 +104,7 @@ module _ (g : Setting) (x : Path) where
 
     call_left : (p : ProcRef) → IsIn S p → (xs : List Var) (o : Option Routine) (es : List Term) (c : Program) → g.procedure p ≡ o → Unnamed xs → CallsGood (called xs o es c) →
         (CallsGood c → Unwritten g c k) → Unwritten g (called xs o es c) k
-    call_left p i xs (Some r) es c e s h u = (s, h.0 p i e, u h.1)
+    call_left p i xs (Some r) es c e s h u = (s, h.0 p i e, u h.2)
     call_left p i xs None es c e s h u = u h
 
     row_left : {n : Count} (is : Row_of-Instr n) → Unnamed (row_targets is) → AreThere (row_calls is) → CallsGood (program_of g is) → Unwritten g (program_of g is) k
@@ -162,35 +158,21 @@ module _ (g : Setting) (x : Path) where
   globals_left (var.Global m y ∷ ys) s = (s.0, globals_left ys s.1)
   globals_left (var.Glob a ∷ ys) s = (s.0, globals_left ys s.1)
 
-  -- declared procedures are those of the setting
-  module _ (ds : Declarations) (linked : (p : ProcRef) (a : Proc) → procedure_of ds p ≡ Some a → g.procedure p ≡ Some (routine a.params a.locals (statements g a.body.list) a.value)) where
-    -- the body of each procedure of S leaves the place, where the procedures do that it calls
-    module _ (S : List ProcRef) (closed : AreFollowed ds S S) (each : (p : ProcRef) → IsIn S p → IsDeclared g.types k ds p) where
-      abbrev body_of : Routine → Program
-      body_of (routine ps ls c v) = c
+  -- references mean what they stand for
+  module _ (ds : Declarations) (means : (p : ProcRef) → Means g p (meant_by ds p)) where
+    -- each procedure of S leaves the place, where all that it carries do
+    module _ (S : List ProcRef) (closed : AreFollowed ds S S) (spared : AreSpared g.types k (written_by ds S)) where
+      by_meaning : (r : Routine) → EachCarriedBy (IsGood S) r → (p : ProcRef) → g.procedure p ≡ Some r → (m : Meant) → Means g p m → AreSpared g.types k (written_itself m) →
+          ((q : ProcRef) → IsIn (called_by m) q → IsIn S q) → UnwrittenBy g r k
+      by_meaning r c p e Unknown w s h = absurd s
+      by_meaning r c p e (Declared f) w s h =
+          let is : routine f.params f.locals (statements g f.body.list) f.value ≡ r = same_Some (routine f.params f.locals (statements g f.body.list) f.value) r (sym w ∙ e) in
+          subst (λ z. UnwrittenBy g z k) is
+          (statements_left S f.body.list (globals_left (targets f.body.list) s) (each_there S (calls f.body.list) h) (subst (EachCarriedBy (IsGood S)) (sym is) c))
+      by_meaning r c p e (Any a qs) w s h = writes_of_any g a qs p w S h k s.0 r e c
 
-      from_body : (r : Routine) → CallsGood S (body_of r) → IsGood S r
-      from_body r c p i e =
-          let x = each p i in
-          let is : routine x.found.params x.found.locals (statements g x.found.body.list) x.found.value ≡ r =
-          same_Some (routine x.found.params x.found.locals (statements g x.found.body.list) x.found.value) r (sym (linked p x.found x.declared) ∙ e) in
-          let left : Unwritten g (statements g x.found.body.list) k =
-          statements_left S x.found.body.list (globals_left (targets x.found.body.list) x.spared)
-          (each_there S (calls x.found.body.list) (λ q j. closed p i q (subst (λ o. IsIn (called_by o) q) (sym x.declared) j))) (subst (λ z. CallsGood S (body_of z)) (sym is) c) in
-          subst (λ z. UnwrittenBy g z k) is left
-
-      mutual
-        all_good : (c : Program) → CallsGood S c
-        all_good done = tt
-        all_good (assign xs e c) = all_good c
-        all_good (sample y d c) = all_good c
-        all_good (branch e a b c) = (all_good a, all_good b, all_good c)
-        all_good (loop e v a c) = (all_good a, all_good c)
-        all_good (call xs r es c) = (routine_good r, all_good c)
-        all_good (ask xs o es c) = all_good c
-
-        routine_good : (r : Routine) → IsGood S r
-        routine_good (routine ps ls c v) = from_body (routine ps ls c v) (all_good c)
+      routine_good : (r : Routine) → IsGood S r
+      routine_good = each_procedure (IsGood S) (λ r c p i e. by_meaning r c p e (meant_by ds p) (means p) (written_each g.types k ds S spared p i) (closed p i))
 
     -- procedures, and what they call, leave what isn't found to be written
     pub reached_left : (ps : List ProcRef) (U : List Var) → written_if ds (all_reached ds ps) ≡ Some U → Unnamed U → (p : ProcRef) → IsIn ps p → (r : Routine) → g.procedure p ≡ Some r → UnwrittenBy g r k
@@ -201,7 +183,7 @@ module _ (g : Setting) (x : Path) where
         by_written S d (Some xs) f e =
             let reach = all_closed ds ps S d in
             let spared : Unnamed xs = (spares_joined g.types k xs [] (subst Unnamed (sym (same_Some (joined xs []) U e)) s)).0 in
-            routine_good S reach.closed (λ q i. written_each g.types k ds S xs f spared q i) r p (reach.there p i) c
+            routine_good S reach.closed (subst (AreSpared g.types k) (sym f) spared) r p (reach.there p i) c
 
         by_reach : (o : Option (List ProcRef)) → all_reached ds ps ≡ o → written_if ds o ≡ Some U → UnwrittenBy g r k
         by_reach None d e = absurd (none-some U e)

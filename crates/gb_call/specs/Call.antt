@@ -32,6 +32,7 @@ use Rattle.gb_mods.specs.Written.{written}
 use Rattle.gb_call.specs.Written.{with_types}
 use Rattle.gb_call.specs.declared.call.Callee as seen
 use Rattle.gb_call.specs.declared.call.Known.{Known}
+use Rattle.gb_mods.specs.Exclusions.{exclusions}
 
 -- a call, its procedure, and the globals that it writes
 pub record Callee : Type 0 where
@@ -94,11 +95,11 @@ if_few xs a = if nat_lt (length xs) 9 then a else refusing Shape
 
 abbrev pub by_callee : Declarations → Contract → Term → Term → Callee → Answer (List Goal)
 by_callee ds s p q k =
-    if_few k.call.targets (unless_clash (clash_after Own k.call.targets k.written s.post q) (by_globals k s p q (with_types ds (left_of Own k s q))))
+    if_few k.call.targets (unless_clash (clash_after (exclusions ds) Own k.call.targets k.written s.post q) (by_globals k s p q (with_types ds (left_of Own k s q))))
 
 abbrev pub chances_by_callee : Declarations → Contract → Rel → Term → Term → Term → Callee → Answer (List Goal)
 chances_by_callee ds s r p q b k =
-    if_few k.call.targets (unless_clash (clash_after Own k.call.targets k.written s.post q) (chances_by_globals ds k s r p q b (with_types ds (left_of Own k s q))))
+    if_few k.call.targets (unless_clash (clash_after (exclusions ds) Own k.call.targets k.written s.post q) (chances_by_globals ds k s r p q b (with_types ds (left_of Own k s q))))
 
 abbrev pub callee : LastCall → Option Proc → Option (List Var) → Option Callee
 callee k (Some a) (Some xs) = Some (record { call = k; declared = a; written = xs })

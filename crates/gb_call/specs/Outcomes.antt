@@ -14,7 +14,7 @@ use Rattle.gb_terms.specs.Equal.{var_eq}
 use Rattle.gb_terms.specs.Make.{node}
 use Rattle.gb_walk.specs.declared.change.Change.TheVariants.{ToTerm}
 use Rattle.gb_walk.specs.Change.{Changes, term_changed}
-use Rattle.gb_walk.specs.Clash.{least, variables_read}
+use Rattle.gb_walk.specs.Clash.{Exclusions, least, variables_read}
 use Rattle.gb_meaning.specs.Memory.{result_name}
 use Rattle.gb_typing.specs.Forms.{located}
 use Rattle.gb_prog.specs.AllValues.{in_memory, for_all, to_bound_values}
@@ -97,16 +97,16 @@ abbrev pub is_left : Side → List Var → Term → Term → Var → Bool
 is_left r xs said f = is_left_of xs (variables_read r said) (variables_read r f)
 
 -- whether another variable clashes with x in what is said of the outcome, or after the call
-abbrev pub is_clashing_after : Side → Term → Term → Var → Bool
-is_clashing_after r said f x = is_clashing r said x || is_clashing r f x
+abbrev pub is_clashing_after : Exclusions → Side → Term → Term → Var → Bool
+is_clashing_after es r said f x = is_clashing es r said x || is_clashing es r f x
 
 -- the variables of the left side, and the globals that are written, with which another one clashes where it is replaced
-abbrev pub clashing_after : Side → List Var → List Var → Term → Term → List Var
-clashing_after r xs written said f = filter (is_clashing r f) xs ++ filter (is_clashing_after r said f) written
+abbrev pub clashing_after : Exclusions → Side → List Var → List Var → Term → Term → List Var
+clashing_after es r xs written said f = filter (is_clashing es r f) xs ++ filter (is_clashing_after es r said f) written
 
 -- the least of them
-abbrev pub clash_after : Side → List Var → List Var → Term → Term → Option Var
-clash_after r xs written said f = least (clashing_after r xs written said f)
+abbrev pub clash_after : Exclusions → Side → List Var → List Var → Term → Term → Option Var
+clash_after es r xs written said f = least (clashing_after es r xs written said f)
 
 -- the same, as the code has them
 abbrev pub globals_seen : List TypedGlobal → List TypedVariable

@@ -38,6 +38,7 @@ use gb_full::lossless::{Judged, of_rest};
 use gb_goal::goal::{Code, Goal, goal_of, hoare};
 use gb_goal::scope::Scope;
 use gb_goal::sequent::{Sequent, Sequents};
+use gb_mods::exclusions::exclusions;
 use gb_mods::procedures::proc_writes;
 use gb_parts::judged::{hoare_of, phoare_of};
 use gb_parts::subgoals::{no_shape, one_goal, refusal, shared_body, two_goals};
@@ -47,6 +48,7 @@ use gb_terms::make::conjunction;
 use gb_terms::module::ProcRef;
 use gb_terms::op::{Rel, Side};
 use gb_terms::term::{Form, RealTerm, Subject};
+use gb_walk::clash::Excluded;
 use std::alloc::{AllocError, Global};
 
 /// More variables than a tuple has parts.
@@ -168,15 +170,24 @@ pub fn read_after(
 
 /// The least variable of the left side, or of the globals that are written, with which another one clashes where it is replaced.
 pub fn clash_after<'a>(
+    exclusions: &[Excluded],
     side: Side,
     callee: &Callee<'a>,
     contract: &Contract,
     post: &Form,
 ) -> Option<&'a Var>
-    ensures { option_copied result ≡ clash_after side (callee_seen callee.now).call.targets (callee_seen callee.now).written contract.now.post post.now }
+    ensures { option_copied result ≡ clash_after exclusions.now side (callee_seen callee.now).call.targets (callee_seen callee.now).written contract.now.post post.now }
 {
     let targets = callee.call.targets;
-    clashing_after(None, side, targets, callee.written, &contract.post, post)
+    clashing_after(
+        None,
+        exclusions,
+        side,
+        targets,
+        callee.written,
+        &contract.post,
+        post,
+    )
 }
 
 /// The refusal at a variable that clashes with one that is replaced.
@@ -205,7 +216,8 @@ fn by_callee(
     if targets.len() >= MANY {
         return Err(no_shape());
     }
-    if let Some(var) = clash_after(Side::Own, callee, contract, post) {
+    let excluded = exclusions(alloc, scope)?;
+    if let Some(var) = clash_after(excluded.as_slice(), Side::Own, callee, contract, post) {
         return Err(side_condition(alloc, var));
     }
     let Some(read) = read_after(alloc, Side::Own, scope, callee, contract, post)? else {
@@ -328,7 +340,8 @@ fn chances_by_callee(
         return Err(no_shape());
     }
     let post = judged.post;
-    if let Some(var) = clash_after(Side::Own, callee, contract, post) {
+    let excluded = exclusions(alloc, scope)?;
+    if let Some(var) = clash_after(excluded.as_slice(), Side::Own, callee, contract, post) {
         return Err(side_condition(alloc, var));
     }
     let Some(read) = read_after(alloc, Side::Own, scope, callee, contract, post)? else {

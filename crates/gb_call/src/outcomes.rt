@@ -24,7 +24,7 @@ use gb_terms::make::{forall, leaf};
 use gb_terms::op::{Read, Rel, Side};
 use gb_terms::term::{Form, Head, Term};
 use gb_walk::change::{Change, Changes};
-use gb_walk::clash::{first_clash, lesser};
+use gb_walk::clash::{Excluded, first_clash, lesser};
 use gb_walk::walk::changed;
 use sqlite_items::Items;
 use std::alloc::{AllocError, Global};
@@ -254,32 +254,40 @@ pub fn after_call(
 }
 
 /// Whether another variable clashes with this one in what is said of the outcome, or after the call.
-fn is_clashing_after(side: Side, said: &Form, form: &Form, variable: &Var) -> bool
-    ensures { result ≡ is_clashing_after side said.now form.now variable.now }
+fn is_clashing_after(
+    exclusions: &[Excluded],
+    side: Side,
+    said: &Form,
+    form: &Form,
+    variable: &Var,
+) -> bool
+    ensures { result ≡ is_clashing_after exclusions.now side said.now form.now variable.now }
 {
-    first_clash(&side, variable, said).is_some() || first_clash(&side, variable, form).is_some()
+    first_clash(exclusions, &side, variable, said).is_some()
+        || first_clash(exclusions, &side, variable, form).is_some()
 }
 
 /// The least of what was found before, the variables of the left side, and the globals that are written, with which another one clashes
 /// where it is replaced.
 pub fn clashing_after<'a>(
     before: Option<&'a Var>,
+    exclusions: &[Excluded],
     side: Side,
     targets: &'a [Var],
     written: &'a [Var],
     said: &Form,
     form: &Form,
 ) -> Option<&'a Var>
-    ensures { option_copied result ≡ least_from (option_copied before.entry) (clashing_after side targets.now written.now said.now form.now) }
+    ensures { option_copied result ≡ least_from (option_copied before.entry) (clashing_after exclusions.now side targets.now written.now said.now form.now) }
 {
     let mut found = before;
     for target in targets {
-        if first_clash(&side, target, form).is_some() {
+        if first_clash(exclusions, &side, target, form).is_some() {
             found = lesser(found, target);
         }
     }
     for global in written {
-        if is_clashing_after(side, said, form, global) {
+        if is_clashing_after(exclusions, side, said, form, global) {
             found = lesser(found, global);
         }
     }

@@ -3,7 +3,7 @@
 ghost use Rattle.std.specs.Prelude.{◌≡◌, IfOk};
 ghost use Rattle.std.specs.Option.{option_copied};
 ghost use Rattle.gb_meaning.specs.Written.{local_type};
-ghost use Rattle.gb_call.specs.Written.{global_type, type_in, typed_seen, with_types};
+ghost use Rattle.gb_call.specs.Written.{glob_type, global_type, type_in, typed_seen, with_types};
 
 use gb_core::Shared;
 use gb_core::copy::copy_var;
@@ -13,6 +13,7 @@ use gb_core::ty::Ty;
 use gb_core::var::Var;
 use gb_goal::scope::Scope;
 use gb_terms::decl::{Module, TypedName};
+use gb_terms::module::Bind;
 use sqlite_items::Items;
 use std::alloc::{AllocError, Global};
 
@@ -47,13 +48,38 @@ fn type_in<'a>(found: Option<&'a Module>, name: &Name) -> Option<&'a Shared<Ty>>
     }
 }
 
-/// The type of a global of a declared module.
-fn global_type<'a>(scope: &'a Scope, variable: &Var) -> Option<&'a Shared<Ty>>
-    ensures { option_copied result ≡ global_type scope.now variable.now }
+/// The type of all that is the own of the abstract module of this name.
+fn glob_type(
+    alloc: Global,
+    module: &Name,
+    bind: Option<&Bind>,
+) -> Result<Option<Shared<Ty>>, AllocError>
+    ensures { IfOk result (λ made. made ≡ glob_type «module».now (option_copied bind.entry)) }
+{
+    match bind {
+        Some(_) => {
+            let name = module.copy(alloc)?;
+            Ok(Some(Shared::new(alloc, Ty::Glob(name))?))
+        }
+        None => Ok(None),
+    }
+}
+
+/// The type of a global of a declared module, or of all of an abstract one.
+fn global_type(
+    alloc: Global,
+    scope: &Scope,
+    variable: &Var,
+) -> Result<Option<Shared<Ty>>, AllocError>
+    ensures { IfOk result (λ made. made ≡ global_type scope.now variable.now) }
 {
     match variable {
-        Var::Global { module, name } => type_in(scope.module(module), name),
-        _ => None,
+        Var::Global { module, name } => match type_in(scope.module(module), name) {
+            Some(ty) => Ok(Some(ty.share()?)),
+            None => Ok(None),
+        },
+        Var::Glob { module } => glob_type(alloc, module, scope.abstract_module(module)),
+        Var::Local { .. } => Ok(None),
     }
 }
 
@@ -67,10 +93,9 @@ pub fn with_types(
 {
     let mut typed = Items::new(alloc);
     for variable in list {
-        let Some(ty) = global_type(scope, variable) else {
+        let Some(ty) = global_type(alloc, scope, variable)? else {
             return Ok(None);
         };
-        let ty = ty.share()?;
         let variable = copy_var(alloc, variable)?;
         typed.push(TypedGlobal { variable, ty })?;
     }

@@ -52,7 +52,7 @@ use Rattle.gb_typing.specs.Sequents.{of_sequent, IsTypedSequent}
 use Rattle.gb_typing.specs.Typing.{before, after, IsForm}
 use Rattle.gb_typing.specs.Goals.{IsGoalOver, IsTypedGoal}
 use Rattle.gb_typing.specs.Meaning.{Stands, denominator, run}
-use Rattle.gb_typing.specs.Forms.{IsAlone}
+use Rattle.gb_typing.specs.Forms.{IsAlone, IsKeptOff}
 use Rattle.gb_typing.specs.Rules.{IsSettingOver, IsSoundIn, IsSoundRuleIn, ImpliesIn, outermost}
 use Rattle.gb_typing.proofs.Both.{within_both}
 use Rattle.gb_typing.proofs.Forms.{and_typed, and_use}
@@ -64,7 +64,9 @@ use Rattle.gb_prog.specs.Writes.{DifferIn, TypedVariable, AreIn, variables}
 use Rattle.gb_prog.proofs.Couplings.{runs_sequence}
 use Rattle.gb_parts.proofs.AssignedForms.{in_both}
 use Rattle.gb_call.specs.Call.{Callee, callee as callee_if, callee_of, if_few, left_of, outcome as outcome_of, unless_clash}
+use Rattle.gb_mods.specs.Exclusions.{exclusions}
 use Rattle.gb_mods.specs.Written.{written}
+use Rattle.gb_adversaries.proofs.KeptOff.{kept_off}
 use Rattle.gb_call.specs.LastCall.{LastCall, last_call}
 use Rattle.gb_call.specs.Outcomes.{Outcome, clashing_after, is_among, is_read, reads_result}
 use Rattle.gb_call.specs.Written.{with_types}
@@ -99,7 +101,7 @@ module _ (ds : Declarations) (scoped : IsTypedScope (declared ds)) (t : Sequent)
     abbrev right_callee : Callee
     right_callee = record { call = l; declared = e; written = U }
 
-    module _ (left_few : length k.targets < 9) (right_few : length l.targets < 9) (clear : clash_after_both left_callee right_callee s q ≡ None)
+    module _ (left_few : length k.targets < 9) (right_few : length l.targets < 9) (clear : clash_after_both (exclusions ds) left_callee right_callee s q ≡ None)
         (W V : List TypedVariable) (left_types : with_types ds (left_of side.Left left_callee s q) ≡ Some W) (right_types : with_types ds (left_of side.Right right_callee s q) ≡ Some V) where
       abbrev left_result : List TypedName
       left_result = record { name = result_name; ty = a.result } ∷ []
@@ -149,8 +151,8 @@ module _ (ds : Declarations) (scoped : IsTypedScope (declared ds)) (t : Sequent)
       abbrev right_occurs : Bool
       right_occurs = reads_result u s.post q
 
-      no_clash : (clashing_after side.Left k.targets T s.post q ≡ []) × (clashing_after side.Right l.targets U s.post q ≡ [])
-      no_clash = both_empty (clashing_after side.Left k.targets T s.post q) (clashing_after side.Right l.targets U s.post q) (nothing_least _ clear)
+      no_clash : (clashing_after (exclusions ds) side.Left k.targets T s.post q ≡ []) × (clashing_after (exclusions ds) side.Right l.targets U s.post q ≡ [])
+      no_clash = both_empty (clashing_after (exclusions ds) side.Left k.targets T s.post q) (clashing_after (exclusions ds) side.Right l.targets U s.post q) (nothing_least _ clear)
 
       -- where a result doesn't occur, neither form reads it
       left_unread : left_occurs ≡ false → (is_read side.Left s.post (var.Local result_name) ≡ false) × (list_any (is_read side.Left q) k.targets ≡ false)
@@ -221,6 +223,9 @@ module _ (ds : Declarations) (scoped : IsTypedScope (declared ds)) (t : Sequent)
         state_there : IsStateOf (outermost c) g v
         state_there = subst (λ d. IsStateOf d g v) outer fit
 
+        off : IsKeptOff (exclusions ds) g
+        off = kept_off ds scoped g over
+
         abbrev R : Routine
         R = callees.routine_in ds scoped t typed outer ls is w.1 k left_last a left_found T left_known g fits
 
@@ -248,17 +253,17 @@ module _ (ds : Declarations) (scoped : IsTypedScope (declared ds)) (t : Sequent)
 
         -- what is said of two outcomes leads to what is to hold after the calls
         module _ (m n h i : Memory) (left_outcome : LeftOutcome m h) (right_outcome : RightOutcome n i) (holds : IsTrueUnder g j (after_both o u s.post q) (between v m n)) (said : IsTrueUnder g j s.post (between v h i)) where
-          left_after : IsSpared side.Left q (k.targets ++ T) (unread_after side.Left tt k.targets T s.post q left_occurs)
-          left_after = after_spared side.Left tt k.targets T s.post q left_occurs no_clash.0 _ end_form.typed (λ f. (left_unread f).1)
+          left_after : IsSpared (exclusions ds) side.Left q (k.targets ++ T) (unread_after side.Left tt k.targets T s.post q left_occurs)
+          left_after = after_spared side.Left tt k.targets T s.post q left_occurs (exclusions ds) no_clash.0 _ end_form.typed (λ f. (left_unread f).1)
 
-          right_after : IsSpared side.Right q (l.targets ++ U) (unread_after side.Right tt l.targets U s.post q right_occurs)
-          right_after = after_spared side.Right tt l.targets U s.post q right_occurs no_clash.1 _ end_form.typed (λ f. (right_unread f).1)
+          right_after : IsSpared (exclusions ds) side.Right q (l.targets ++ U) (unread_after side.Right tt l.targets U s.post q right_occurs)
+          right_after = after_spared side.Right tt l.targets U s.post q right_occurs (exclusions ds) no_clash.1 _ end_form.typed (λ f. (right_unread f).1)
 
-          left_said : IsSpared side.Left s.post T (unread_said side.Left tt k.targets T s.post q left_occurs)
-          left_said = said_spared side.Left tt k.targets T s.post q left_occurs no_clash.0 _ said_form.typed (λ f. (left_unread f).0)
+          left_said : IsSpared (exclusions ds) side.Left s.post T (unread_said side.Left tt k.targets T s.post q left_occurs)
+          left_said = said_spared side.Left tt k.targets T s.post q left_occurs (exclusions ds) no_clash.0 _ said_form.typed (λ f. (left_unread f).0)
 
-          right_said : IsSpared side.Right s.post U (unread_said side.Right tt l.targets U s.post q right_occurs)
-          right_said = said_spared side.Right tt l.targets U s.post q right_occurs no_clash.1 _ said_form.typed (λ f. (right_unread f).0)
+          right_said : IsSpared (exclusions ds) side.Right s.post U (unread_said side.Right tt l.targets U s.post q right_occurs)
+          right_said = said_spared side.Right tt l.targets U s.post q right_occurs (exclusions ds) no_clash.1 _ said_form.typed (λ f. (right_unread f).0)
 
           -- the variables that both conditions leave
           abbrev P : Readable
@@ -292,22 +297,22 @@ module _ (ds : Declarations) (scoped : IsTypedScope (declared ds)) (t : Sequent)
               subst (λ (K : Uses). IsWithin K s.post) (λ i u. in_both x.readable z.readable u i) (within_both (reading x.readable) (reading z.readable) s.post x.within z.within)
 
           left_globals : AllByRecursion (λ w. IsAlone g w.variable (P side.Left)) W
-          left_globals = fewer_read g (P side.Left) _ left_read W (globals_alone side.Left tt k.targets T s.post q left_occurs W left_are.0 g left_after)
+          left_globals = fewer_read g (P side.Left) _ left_read W (globals_alone side.Left tt k.targets T s.post q left_occurs W left_are.0 g (exclusions ds) off left_after)
 
           right_globals : AllByRecursion (λ w. IsAlone g w.variable (P side.Right)) V
-          right_globals = fewer_read g (P side.Right) _ right_read V (globals_alone side.Right tt l.targets U s.post q right_occurs V right_are.0 g right_after)
+          right_globals = fewer_read g (P side.Right) _ right_read V (globals_alone side.Right tt l.targets U s.post q right_occurs V right_are.0 g (exclusions ds) off right_after)
 
           left_targets : AllByRecursion (λ x. IsAlone g x (P side.Left)) k.targets
-          left_targets = fewer_targets g (P side.Left) _ left_read k.targets (left_alone side.Left tt k.targets T s.post q left_occurs W left_are.0 g left_after)
+          left_targets = fewer_targets g (P side.Left) _ left_read k.targets (left_alone side.Left tt k.targets T s.post q left_occurs W left_are.0 g (exclusions ds) off left_after)
 
           right_targets : AllByRecursion (λ x. IsAlone g x (P side.Right)) l.targets
-          right_targets = fewer_targets g (P side.Right) _ right_read l.targets (left_alone side.Right tt l.targets U s.post q right_occurs V right_are.0 g right_after)
+          right_targets = fewer_targets g (P side.Right) _ right_read l.targets (left_alone side.Right tt l.targets U s.post q right_occurs V right_are.0 g (exclusions ds) off right_after)
 
           left_said_globals : AllByRecursion (λ w. IsAlone g w.variable (Q side.Left)) W
-          left_said_globals = fewer_read g (Q side.Left) _ left_said_read W (said_alone side.Left tt k.targets T s.post q left_occurs W left_are.0 g left_said)
+          left_said_globals = fewer_read g (Q side.Left) _ left_said_read W (said_alone side.Left tt k.targets T s.post q left_occurs W left_are.0 g (exclusions ds) off left_said)
 
           right_said_globals : AllByRecursion (λ w. IsAlone g w.variable (Q side.Right)) V
-          right_said_globals = fewer_read g (Q side.Right) _ right_said_read V (said_alone side.Right tt l.targets U s.post q right_occurs V right_are.0 g right_said)
+          right_said_globals = fewer_read g (Q side.Right) _ right_said_read V (said_alone side.Right tt l.targets U s.post q right_occurs V right_are.0 g (exclusions ds) off right_said)
 
           ends : IsTrueUnder g j q (between v (returned g k.targets m h) (returned g l.targets n i))
           ends =
@@ -316,19 +321,19 @@ module _ (ds : Declarations) (scoped : IsTypedScope (declared ds)) (t : Sequent)
               s.post q left_occurs right_occurs said_narrow end_form
               g fits_there j fair v state_there m n h i T U left_outcome.1 right_outcome.1 (result_in h) (result_in i) left_outcome.0.0 right_outcome.0.0 left_outcome.0.1 right_outcome.0.1
               Q said_within (results_alone g Q left_occurs right_occurs k.targets l.targets a.result e.result W V (both_alone g Q W V left_said_globals right_said_globals))
-              (λ z f. said_read side.Left tt k.targets T s.post q left_occurs W left_are.0 g left_said z (left_said_read z f))
-              (λ z f. said_read side.Right tt l.targets U s.post q right_occurs V right_are.0 g right_said z (right_said_read z f))
+              (λ z f. said_read side.Left tt k.targets T s.post q left_occurs W left_are.0 g (exclusions ds) off left_said z (left_said_read z f))
+              (λ z f. said_read side.Right tt l.targets U s.post q right_occurs V right_are.0 g (exclusions ds) off right_said z (right_said_read z f))
               left_said_globals right_said_globals
               P end_within left_globals right_globals left_targets right_targets (both_alone g P W V left_globals right_globals)
               (left_covers left_occurs refl) (right_covers right_occurs refl) holds said
             where
               left_covers : (b : Bool) → left_occurs ≡ b → Covers g b (P side.Left) k.targets T W
-              left_covers true f = λ z x. with_result side.Left tt k.targets T s.post q left_occurs W left_are.0 g left_after z (left_read z x)
-              left_covers false f = λ z x. without_result side.Left tt k.targets T s.post q left_occurs W left_are.0 g left_after f z (left_read z x)
+              left_covers true f = λ z x. with_result side.Left tt k.targets T s.post q left_occurs W left_are.0 g (exclusions ds) off left_after z (left_read z x)
+              left_covers false f = λ z x. without_result side.Left tt k.targets T s.post q left_occurs W left_are.0 g (exclusions ds) off left_after f z (left_read z x)
 
               right_covers : (b : Bool) → right_occurs ≡ b → Covers g b (P side.Right) l.targets U V
-              right_covers true f = λ z x. with_result side.Right tt l.targets U s.post q right_occurs V right_are.0 g right_after z (right_read z x)
-              right_covers false f = λ z x. without_result side.Right tt l.targets U s.post q right_occurs V right_are.0 g right_after f z (right_read z x)
+              right_covers true f = λ z x. with_result side.Right tt l.targets U s.post q right_occurs V right_are.0 g (exclusions ds) off right_after z (right_read z x)
+              right_covers false f = λ z x. without_result side.Right tt l.targets U s.post q right_occurs V right_are.0 g (exclusions ds) off right_after f z (right_read z x)
 
         -- the procedures do what is said of them, from the arguments
         module _ (does : Stands g j v (equiv (procedure k.procedure) (procedure l.procedure) s.pre s.post)) (m n : Memory) (holds : IsTrueUnder g j (before_both left_callee W right_callee V s q) (between v m n)) where
@@ -388,7 +393,7 @@ module _ (ds : Declarations) (scoped : IsTypedScope (declared ds)) (t : Sequent)
       abbrev Result : Type 0
       Result = AllByRecursion (IsTypedGoal c) Gs × ImpliesIn (declared ds) c Gs (equiv (body is) (body js) p q)
 
-      by_left : (left_few : length k.targets < 9) → (right_few : length l.targets < 9) → clash_after_both left_callee right_callee s q ≡ None →
+      by_left : (left_few : length k.targets < 9) → (right_few : length l.targets < 9) → clash_after_both (exclusions ds) left_callee right_callee s q ≡ None →
           (f : Option (List TypedVariable)) → with_types ds (left_of side.Left left_callee s q) ≡ f → (r : Option (List TypedVariable)) → with_types ds (left_of side.Right right_callee s q) ≡ r →
           by_both_globals left_callee right_callee s p q f r ≡ given Gs → Result
       by_left x z clear None f r h i = refused_given Shape Gs i
@@ -399,17 +404,17 @@ module _ (ds : Declarations) (scoped : IsTypedScope (declared ds)) (t : Sequent)
       abbrev behind : Answer (List Goal)
       behind = by_both_globals left_callee right_callee s p q (with_types ds (left_of side.Left left_callee s q)) (with_types ds (left_of side.Right right_callee s q))
 
-      by_clash : (left_few : length k.targets < 9) → (right_few : length l.targets < 9) → (r : Option Var) → clash_after_both left_callee right_callee s q ≡ r → unless_clash r behind ≡ given Gs → Result
+      by_clash : (left_few : length k.targets < 9) → (right_few : length l.targets < 9) → (r : Option Var) → clash_after_both (exclusions ds) left_callee right_callee s q ≡ r → unless_clash r behind ≡ given Gs → Result
       by_clash x z (Some v) clear i = refused_given (SideCondition v) Gs i
       by_clash x z None clear i = by_left x z clear (with_types ds (left_of side.Left left_callee s q)) refl (with_types ds (left_of side.Right right_callee s q)) refl i
 
       by_many : (b : Bool) → nat_lt (length k.targets) 9 ≡ b → (d : Bool) → nat_lt (length l.targets) 9 ≡ d →
-          (if b then (if d then unless_clash (clash_after_both left_callee right_callee s q) behind else refusing Shape) else refusing Shape) ≡ given Gs → Result
-      by_many true x true z i = by_clash (few k.targets x) (few l.targets z) (clash_after_both left_callee right_callee s q) refl i
+          (if b then (if d then unless_clash (clash_after_both (exclusions ds) left_callee right_callee s q) behind else refusing Shape) else refusing Shape) ≡ given Gs → Result
+      by_many true x true z i = by_clash (few k.targets x) (few l.targets z) (clash_after_both (exclusions ds) left_callee right_callee s q) refl i
       by_many true x false z i = refused_given Shape Gs i
       by_many false x d z i = refused_given Shape Gs i
 
-      by_callees_sound : if_few k.targets (if_few l.targets (unless_clash (clash_after_both left_callee right_callee s q) behind)) ≡ given Gs → Result
+      by_callees_sound : if_few k.targets (if_few l.targets (unless_clash (clash_after_both (exclusions ds) left_callee right_callee s q) behind)) ≡ given Gs → Result
       by_callees_sound i = by_many (nat_lt (length k.targets) 9) refl (nat_lt (length l.targets) 9) refl i
 
   module _ (outer : c ≡ outermost c) (ls rs : List TypedName) (is js : List Instr) (p q : Term) (w : IsGoalOver c ls rs (equiv (body is) (body js) p q)) (Gs : List Goal) where

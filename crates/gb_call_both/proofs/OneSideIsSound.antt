@@ -12,8 +12,6 @@ use Rattle.gb_coupling.specs.WeightedList.{WeightedList, Every, On, dmap, total,
 use Rattle.gb_coupling.specs.Coupling.{Coupling}
 use Rattle.gb_coupling.proofs.Basic.{coupling_dmap, coupling_left_alone, coupling_right_alone}
 use Rattle.gb_coupling.proofs.Entries.{On_of_Every}
-use Rattle.gb_coupling.proofs.Masses.{mass-dmap}
-use Rattle.gb_terms.specs.declared.decl.Proc.{Proc}
 use Rattle.gb_terms.specs.declared.decl.TypedName.{TypedName}
 use Rattle.gb_terms.specs.declared.op.Rel.TheVariants.{AtLeast, Equal}
 use Rattle.gb_terms.specs.declared.op.Side.{Side}
@@ -27,13 +25,13 @@ use Rattle.gb_walk.specs.Clash.{variables_read}
 use Rattle.gb_meaning.specs.Commands.{statements}
 use Rattle.gb_meaning.specs.Judgments.{Judge, IsFair, IsTrueUnder, chance, compares, den, outcome_denominator}
 use Rattle.gb_meaning.specs.Meanings.{fraction_in}
-use Rattle.gb_meaning.specs.Memory.{Memory, arguments, outcome, result_in, result_name}
+use Rattle.gb_meaning.specs.Memory.{Memory, arguments, result_in, result_name}
 use Rattle.gb_meaning.specs.Names.{empty}
 use Rattle.gb_meaning.specs.Program.{Routine}
-use Rattle.gb_meaning.specs.Runs.{new_frame, outcomes, returned, routine_denominator, valued}
+use Rattle.gb_meaning.specs.Runs.{outcomes, returned, routine_denominator}
 use Rattle.gb_meaning.specs.Setting.{Setting}
 use Rattle.gb_meaning.specs.Sound.{IsSoundRoutine}
-use Rattle.gb_meaning.specs.State.{State, at, between, closed}
+use Rattle.gb_meaning.specs.State.{State, at, between}
 use Rattle.gb_meaning.specs.Written.{type_of}
 use Rattle.gb_meaning.proofs.Runs.{routine_entries, routine_positive}
 use Rattle.gb_meaning.proofs.Totals.{routine_bounded}
@@ -48,12 +46,14 @@ use Rattle.gb_goal.specs.Goal.{Goal}
 use Rattle.gb_goal.specs.Goal.Code.{body, procedure}
 use Rattle.gb_goal.specs.Goal.Goal.{hoare, phoare, equiv}
 use Rattle.gb_goal.specs.Scope.{Declarations, procedure_of}
+use Rattle.gb_mods.specs.Exclusions.{exclusions}
 use Rattle.gb_mods.specs.Written.{written}
+use Rattle.gb_adversaries.proofs.KeptOff.{kept_off}
 use Rattle.gb_steps.specs.declared.step.Acts.TheVariants as on
 use Rattle.gb_steps.specs.declared.step.Contract.{Contract}
 use Rattle.gb_typing.specs.Context.{Context, erased, reframed, with_own, with_sides}
 use Rattle.gb_typing.specs.Fits.{IsSettingOf, IsStateOf}
-use Rattle.gb_typing.specs.Forms.{IsAlone, implies_form, located}
+use Rattle.gb_typing.specs.Forms.{IsAlone, IsKeptOff, implies_form, located}
 use Rattle.gb_typing.specs.Goals.{IsGoalOver, IsTypedGoal}
 use Rattle.gb_typing.specs.Meaning.{Stands, denominator, run}
 use Rattle.gb_typing.specs.Programs.{IsBody, IsCall, type_of_procedure}
@@ -203,11 +203,8 @@ module _ (ds : Declarations) (scoped : IsTypedScope (declared ds)) (t : Sequent)
       whole : code_loss ds (procedure k.call.procedure) ≡ nowhere → (m : Memory) → total (D m) ≡ d
       whole e m =
           let x = procedure_whole ds scoped t typed g fits over k.call.procedure e in
-          let a = k.declared in
-          let same : x.found ≡ a = same_Some x.found a (sym x.declared ∙ found) in
-          let from : Memory = record { globals = m.globals; frame = new_frame g a.params a.locals (values m) } in
-          mass-dmap (λ n. outcome n.globals (valued g closed a.value n)) (run g closed a.body.list from) (λ n. 1)
-          ∙ subst (λ (z : Proc). total (run g closed z.body.list from) ≡ denominator g z.body.list) same (x.total closed from)
+          let there = callees.is_routine ds scoped t typed outer ks is typed_body k.call last k.declared found k.written known g fits over in
+          subst (λ r. total (outcomes g r (values m) m.globals) ≡ routine_denominator g r) (same_Some x.found routine (sym x.there ∙ there)) (x.total (values m) m.globals)
 
       surely : (b : Option Term) → IsSure c b → lost ds b k.call.procedure ≡ nowhere → Stands g j v (judged b k.call.procedure s) → (m : Memory) → IsTrueUnder g j s.pre (at v (start m)) → IsSurely m
       surely None h e does m x = record {
@@ -238,7 +235,7 @@ module _ (ds : Declarations) (scoped : IsTypedScope (declared ds)) (t : Sequent)
       call_denominator = callees.call_denominator ds scoped t typed outer ks is typed_body k.call last k.declared found k.written known g fits over
 
     -- Which variables are read after the call, of a memory of the goal.
-    module _ (r : Side) (i : IsSide r) (q said : Term) (b e : Context) (end_typed : IsTyped b q) (said_typed : IsTyped e said) (few : length k.call.targets < 9) (clear : clash_after r k.call.targets k.written said q ≡ None)
+    module _ (r : Side) (i : IsSide r) (q said : Term) (b e : Context) (end_typed : IsTyped b q) (said_typed : IsTyped e said) (few : length k.call.targets < 9) (clear : clash_after (exclusions ds) r k.call.targets k.written said q ≡ None)
         (W : List TypedVariable) (types : with_types ds (filter (is_left r k.call.targets said q) k.written) ≡ Some W) where
       abbrev o : Outcome
       o = record { side = r; targets = k.call.targets; result = R; globals = W }
@@ -249,8 +246,8 @@ module _ (ds : Declarations) (scoped : IsTypedScope (declared ds)) (t : Sequent)
       are : (variables W ≡ filter (is_left r k.call.targets said q) k.written) × AreIn (outermost c) (Some []) W
       are = typed_with ds scoped t typed (filter (is_left r k.call.targets said q) k.written) W types
 
-      no_clash : clashing_after r k.call.targets k.written said q ≡ []
-      no_clash = nothing_least (clashing_after r k.call.targets k.written said q) clear
+      no_clash : clashing_after (exclusions ds) r k.call.targets k.written said q ≡ []
+      no_clash = nothing_least (clashing_after (exclusions ds) r k.call.targets k.written said q) clear
 
       unread : occurs ≡ false → (is_read r said (var.Local result_name) ≡ false) × (list_any (is_read r q) k.call.targets ≡ false)
       unread h = or_parts (is_read r said (var.Local result_name)) (list_any (is_read r q) k.call.targets) h
@@ -258,19 +255,19 @@ module _ (ds : Declarations) (scoped : IsTypedScope (declared ds)) (t : Sequent)
       narrow : Clear r i (hidden occurs) (variables_read r said)
       narrow = hidden_clear r i occurs said (λ h. (unread h).0)
 
-      read_after : IsSpared r q (k.call.targets ++ k.written) (unread_after r i k.call.targets k.written said q occurs)
-      read_after = after_spared r i k.call.targets k.written said q occurs no_clash b end_typed (λ f. (unread f).1)
+      read_after : IsSpared (exclusions ds) r q (k.call.targets ++ k.written) (unread_after r i k.call.targets k.written said q occurs)
+      read_after = after_spared r i k.call.targets k.written said q occurs (exclusions ds) no_clash b end_typed (λ f. (unread f).1)
 
-      read_said : IsSpared r said k.written (unread_said r i k.call.targets k.written said q occurs)
-      read_said = said_spared r i k.call.targets k.written said q occurs no_clash e said_typed (λ f. (unread f).0)
+      read_said : IsSpared (exclusions ds) r said k.written (unread_said r i k.call.targets k.written said q occurs)
+      read_said = said_spared r i k.call.targets k.written said q occurs (exclusions ds) no_clash e said_typed (λ f. (unread f).0)
 
-      covers : (g : Setting) (f : Bool) → occurs ≡ f → (let x = read_after in Covers g f (x.readable r) k.call.targets k.written W)
-      covers g true f = λ z x. with_result r i k.call.targets k.written said q occurs W are.0 g read_after z x
-      covers g false f = λ z x. without_result r i k.call.targets k.written said q occurs W are.0 g read_after f z x
+      covers : (g : Setting) → IsKeptOff (exclusions ds) g → (f : Bool) → occurs ≡ f → (let x = read_after in Covers g f (x.readable r) k.call.targets k.written W)
+      covers g off true f = λ z x. with_result r i k.call.targets k.written said q occurs W are.0 g (exclusions ds) off read_after z x
+      covers g off false f = λ z x. without_result r i k.call.targets k.written said q occurs W are.0 g (exclusions ds) off read_after f z x
 
     -- The call on the left.
     module _ (rs : List TypedName) (js : List Instr) (other : IsBody c rs js) (p q : Term) (p_form : IsForm (with_sides c (Some ks) (Some rs)) p) (q_form : IsForm (with_sides c (Some ks) (Some rs)) q)
-        (few : length k.call.targets < 9) (clear : clash_after side.Left k.call.targets k.written (located side.Left s.post) q ≡ None)
+        (few : length k.call.targets < 9) (clear : clash_after (exclusions ds) side.Left k.call.targets k.written (located side.Left s.post) q ≡ None)
         (W : List TypedVariable) (types : with_types ds (filter (is_left side.Left k.call.targets (located side.Left s.post) q) k.written) ≡ Some W) where
       abbrev left_outcome : Outcome
       left_outcome = record { side = side.Left; targets = k.call.targets; result = R; globals = W }
@@ -296,10 +293,10 @@ module _ (ds : Declarations) (scoped : IsTypedScope (declared ds)) (t : Sequent)
       left_are : (variables W ≡ filter (is_left side.Left k.call.targets left_said q) k.written) × AreIn (outermost c) (Some []) W
       left_are = are side.Left tt q left_said left_context left_said_context left_end.typed left_said_form.typed few clear W types
 
-      abbrev left_spared : IsSpared side.Left q (k.call.targets ++ k.written) (unread_after side.Left tt k.call.targets k.written left_said q left_occurs)
+      abbrev left_spared : IsSpared (exclusions ds) side.Left q (k.call.targets ++ k.written) (unread_after side.Left tt k.call.targets k.written left_said q left_occurs)
       left_spared = read_after side.Left tt q left_said left_context left_said_context left_end.typed left_said_form.typed few clear W types
 
-      abbrev left_said_spared : IsSpared side.Left left_said k.written (unread_said side.Left tt k.call.targets k.written left_said q left_occurs)
+      abbrev left_said_spared : IsSpared (exclusions ds) side.Left left_said k.written (unread_said side.Left tt k.call.targets k.written left_said q left_occurs)
       left_said_spared = read_said side.Left tt q left_said left_context left_said_context left_end.typed left_said_form.typed few clear W types
 
       left_narrow : IsForm (reframed (outermost c) None (Some (frame_if left_occurs R)) (Some [])) left_said
@@ -345,14 +342,17 @@ module _ (ds : Declarations) (scoped : IsTypedScope (declared ds)) (t : Sequent)
         left_state : IsStateOf (outermost c) g v
         left_state = subst (λ d. IsStateOf d g v) outer fit
 
+        left_off : IsKeptOff (exclusions ds) g
+        left_off = kept_off ds scoped g over
+
         left_globals : let x = left_spared in AllByRecursion (λ w. IsAlone g w.variable (x.readable side.Left)) W
-        left_globals = globals_alone side.Left tt k.call.targets k.written left_said q left_occurs W left_are.0 g left_spared
+        left_globals = globals_alone side.Left tt k.call.targets k.written left_said q left_occurs W left_are.0 g (exclusions ds) left_off left_spared
 
         left_targets : let x = left_spared in AllByRecursion (λ z. IsAlone g z (x.readable side.Left)) k.call.targets
-        left_targets = left_alone side.Left tt k.call.targets k.written left_said q left_occurs W left_are.0 g left_spared
+        left_targets = left_alone side.Left tt k.call.targets k.written left_said q left_occurs W left_are.0 g (exclusions ds) left_off left_spared
 
         left_said_globals : let x = left_said_spared in AllByRecursion (λ w. IsAlone g w.variable (x.readable side.Left)) W
-        left_said_globals = said_alone side.Left tt k.call.targets k.written left_said q left_occurs W left_are.0 g left_said_spared
+        left_said_globals = said_alone side.Left tt k.call.targets k.written left_said q left_occurs W left_are.0 g (exclusions ds) left_off left_said_spared
 
         -- what is said of an outcome leads to what is to hold after the call
         left_ends : (m n h : Memory) → IsOutcome g fits over j v m h → IsTrueUnder g j (after_call AtLeast left_outcome left_said q) (between v m n) → holds g fits over j v h ≡ true →
@@ -363,9 +363,9 @@ module _ (ds : Declarations) (scoped : IsTypedScope (declared ds)) (t : Sequent)
             after_both_means c ks rs R R W [] left_are.1 tt finite finite k.call.targets [] takes tt few (omega arith) left_said q left_occurs false left_narrow left_end
             g left_fits j fair v left_state m n h (record { globals = n.globals; frame = h.frame }) k.written [] x.1 (λ z u. refl) (result_in h) (result_in h) x.0.0 x.0.0 x.0.1 x.0.1
             Z.readable Z.within (results_alone g Z.readable left_occurs false k.call.targets [] R R W [] (both_alone g Z.readable W [] left_said_globals tt))
-            (λ z f. said_read side.Left tt k.call.targets k.written left_said q left_occurs W left_are.0 g left_said_spared z f) (λ z f. inl tt) left_said_globals tt
+            (λ z f. said_read side.Left tt k.call.targets k.written left_said q left_occurs W left_are.0 g (exclusions ds) left_off left_said_spared z f) (λ z f. inl tt) left_said_globals tt
             S.readable S.within left_globals tt left_targets tt (both_alone g S.readable W [] left_globals tt)
-            (covers side.Left tt q left_said left_context left_said_context left_end.typed left_said_form.typed few clear W types g left_occurs refl) (λ z f. (tt, inl tt))
+            (covers side.Left tt q left_said left_context left_said_context left_end.typed left_said_form.typed few clear W types g left_off left_occurs refl) (λ z f. (tt, inl tt))
             (subst (λ f. IsTrueUnder g j f (between v m n)) (left_after left_occurs k.call.targets R W left_said q) after)
             (means_on c (Some result) side.Left g j v h (record { globals = n.globals; frame = h.frame }) s.post plain_post post_form ∙ said)
 
@@ -394,7 +394,7 @@ module _ (ds : Declarations) (scoped : IsTypedScope (declared ds)) (t : Sequent)
 
     -- The call on the right.
     module _ (ls : List TypedName) (js : List Instr) (other : IsBody c ls js) (p q : Term) (p_form : IsForm (with_sides c (Some ls) (Some ks)) p) (q_form : IsForm (with_sides c (Some ls) (Some ks)) q)
-        (few : length k.call.targets < 9) (clear : clash_after side.Right k.call.targets k.written (located side.Right s.post) q ≡ None)
+        (few : length k.call.targets < 9) (clear : clash_after (exclusions ds) side.Right k.call.targets k.written (located side.Right s.post) q ≡ None)
         (W : List TypedVariable) (types : with_types ds (filter (is_left side.Right k.call.targets (located side.Right s.post) q) k.written) ≡ Some W) where
       abbrev right_outcome : Outcome
       right_outcome = record { side = side.Right; targets = k.call.targets; result = R; globals = W }
@@ -420,10 +420,10 @@ module _ (ds : Declarations) (scoped : IsTypedScope (declared ds)) (t : Sequent)
       right_are : (variables W ≡ filter (is_left side.Right k.call.targets right_said q) k.written) × AreIn (outermost c) (Some []) W
       right_are = are side.Right tt q right_said right_context right_said_context right_end.typed right_said_form.typed few clear W types
 
-      abbrev right_spared : IsSpared side.Right q (k.call.targets ++ k.written) (unread_after side.Right tt k.call.targets k.written right_said q right_occurs)
+      abbrev right_spared : IsSpared (exclusions ds) side.Right q (k.call.targets ++ k.written) (unread_after side.Right tt k.call.targets k.written right_said q right_occurs)
       right_spared = read_after side.Right tt q right_said right_context right_said_context right_end.typed right_said_form.typed few clear W types
 
-      abbrev right_said_spared : IsSpared side.Right right_said k.written (unread_said side.Right tt k.call.targets k.written right_said q right_occurs)
+      abbrev right_said_spared : IsSpared (exclusions ds) side.Right right_said k.written (unread_said side.Right tt k.call.targets k.written right_said q right_occurs)
       right_said_spared = read_said side.Right tt q right_said right_context right_said_context right_end.typed right_said_form.typed few clear W types
 
       right_narrow : IsForm (reframed (outermost c) None (Some []) (Some (frame_if right_occurs R))) right_said
@@ -469,14 +469,17 @@ module _ (ds : Declarations) (scoped : IsTypedScope (declared ds)) (t : Sequent)
         right_state : IsStateOf (outermost c) g v
         right_state = subst (λ d. IsStateOf d g v) outer fit
 
+        right_off : IsKeptOff (exclusions ds) g
+        right_off = kept_off ds scoped g over
+
         right_globals : let x = right_spared in AllByRecursion (λ w. IsAlone g w.variable (x.readable side.Right)) W
-        right_globals = globals_alone side.Right tt k.call.targets k.written right_said q right_occurs W right_are.0 g right_spared
+        right_globals = globals_alone side.Right tt k.call.targets k.written right_said q right_occurs W right_are.0 g (exclusions ds) right_off right_spared
 
         right_targets : let x = right_spared in AllByRecursion (λ z. IsAlone g z (x.readable side.Right)) k.call.targets
-        right_targets = left_alone side.Right tt k.call.targets k.written right_said q right_occurs W right_are.0 g right_spared
+        right_targets = left_alone side.Right tt k.call.targets k.written right_said q right_occurs W right_are.0 g (exclusions ds) right_off right_spared
 
         right_said_globals : let x = right_said_spared in AllByRecursion (λ w. IsAlone g w.variable (x.readable side.Right)) W
-        right_said_globals = said_alone side.Right tt k.call.targets k.written right_said q right_occurs W right_are.0 g right_said_spared
+        right_said_globals = said_alone side.Right tt k.call.targets k.written right_said q right_occurs W right_are.0 g (exclusions ds) right_off right_said_spared
 
         -- what is said of an outcome leads to what is to hold after the call
         right_ends : (m n h : Memory) → IsOutcome g fits over j v n h → IsTrueUnder g j (after_call AtLeast right_outcome right_said q) (between v m n) → holds g fits over j v h ≡ true →
@@ -487,9 +490,9 @@ module _ (ds : Declarations) (scoped : IsTypedScope (declared ds)) (t : Sequent)
             after_both_means c ls ks R R [] W tt right_are.1 finite finite [] k.call.targets tt takes (omega arith) few right_said q false right_occurs right_narrow right_end
             g right_fits j fair v right_state m n (record { globals = m.globals; frame = h.frame }) h [] k.written (λ z u. refl) x.1 (result_in h) (result_in h) x.0.0 x.0.0 x.0.1 x.0.1
             Z.readable Z.within (results_alone g Z.readable false right_occurs [] k.call.targets R R [] W (both_alone g Z.readable [] W tt right_said_globals))
-            (λ z f. inl tt) (λ z f. said_read side.Right tt k.call.targets k.written right_said q right_occurs W right_are.0 g right_said_spared z f) tt right_said_globals
+            (λ z f. inl tt) (λ z f. said_read side.Right tt k.call.targets k.written right_said q right_occurs W right_are.0 g (exclusions ds) right_off right_said_spared z f) tt right_said_globals
             S.readable S.within tt right_globals tt right_targets (both_alone g S.readable [] W tt right_globals)
-            (λ z f. (tt, inl tt)) (covers side.Right tt q right_said right_context right_said_context right_end.typed right_said_form.typed few clear W types g right_occurs refl)
+            (λ z f. (tt, inl tt)) (covers side.Right tt q right_said right_context right_said_context right_end.typed right_said_form.typed few clear W types g right_off right_occurs refl)
             (subst (λ f. IsTrueUnder g j f (between v m n)) (right_after right_occurs k.call.targets R W right_said q) after)
             (means_on c (Some result) side.Right g j v (record { globals = m.globals; frame = h.frame }) h s.post plain_post post_form ∙ said)
 

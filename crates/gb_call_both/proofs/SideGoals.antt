@@ -12,6 +12,7 @@ use Rattle.gb_goal.specs.Answers.Answer.{given}
 use Rattle.gb_goal.specs.Goal.{Goal}
 use Rattle.gb_goal.specs.Rows.{refusing}
 use Rattle.gb_goal.specs.Scope.{Declarations, procedure_of}
+use Rattle.gb_mods.specs.Exclusions.{exclusions}
 use Rattle.gb_mods.specs.Written.{written}
 use Rattle.gb_laws.specs.Plain.{IsPlain}
 use Rattle.gb_typing.specs.Forms.{located}
@@ -48,7 +49,7 @@ module _ (ds : Declarations) (b : Option Term) (s : Contract) (o : OneBody) (Gs 
     pub few : length k.call.targets < 9
     pub plain_pre : IsPlain s.pre
     pub plain_post : IsPlain s.post
-    pub clear : clash_after o.side k.call.targets k.written (located o.side s.post) o.post ≡ None
+    pub clear : clash_after (exclusions ds) o.side k.call.targets k.written (located o.side s.post) o.post ≡ None
     pub full : lost ds b k.call.procedure ≡ nowhere
     pub globals : List TypedVariable
     pub types : with_types ds (left_of o.side k (on_side o.side s) o.post) ≡ Some globals
@@ -59,7 +60,7 @@ module _ (ds : Declarations) (b : Option Term) (s : Contract) (o : OneBody) (Gs 
     last_part = by_side_globals b s o k (with_types ds (left_of o.side k (on_side o.side s) o.post))
 
     abbrev clash : Option Var
-    clash = clash_after o.side k.call.targets k.written (located o.side s.post) o.post
+    clash = clash_after (exclusions ds) o.side k.call.targets k.written (located o.side s.post) o.post
 
     abbrev full_part : Answer (List Goal)
     full_part = where_full (lost ds b k.call.procedure) last_part

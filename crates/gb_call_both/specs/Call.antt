@@ -8,7 +8,7 @@ use Rattle.gb_terms.specs.declared.term.Term.{Term}
 use Rattle.gb_steps.specs.declared.step.Acts.{Acts}
 use Rattle.gb_steps.specs.declared.step.Acts.TheVariants as on
 use Rattle.gb_steps.specs.declared.step.Contract.{Contract}
-use Rattle.gb_walk.specs.Clash.{least}
+use Rattle.gb_walk.specs.Clash.{Exclusions, least}
 use Rattle.gb_core.specs.declared.refusal.Why.TheVariants.{Shape}
 use Rattle.gb_goal.specs.Answers.{Answer}
 use Rattle.gb_goal.specs.Answers.Answer.{given}
@@ -29,6 +29,7 @@ use Rattle.gb_call.specs.Outcomes.{clashing_after}
 use Rattle.gb_call.specs.Written.{with_types}
 use Rattle.gb_call_both.specs.BothOutcomes.{of_both_arguments, after_both}
 use Rattle.gb_call_both.specs.OneSide.{on_one_side}
+use Rattle.gb_mods.specs.Exclusions.{exclusions}
 
 -- The precondition holds of the arguments of both calls, and the postcondition leads to what is to hold after both.
 abbrev pub before_both : Callee → List TypedVariable → Callee → List TypedVariable → Contract → Term → Term
@@ -45,12 +46,12 @@ by_both_globals k l s p q (Some W) (Some V) = given (both_goals k W l V s p q)
 by_both_globals k l s p q _ _ = refusing Shape
 
 -- the least variable that is replaced, on either side, with which another one clashes
-abbrev pub clash_after_both : Callee → Callee → Contract → Term → Option Var
-clash_after_both k l s q = least (clashing_after Left k.call.targets k.written s.post q ++ clashing_after Right l.call.targets l.written s.post q)
+abbrev pub clash_after_both : Exclusions → Callee → Callee → Contract → Term → Option Var
+clash_after_both es k l s q = least (clashing_after es Left k.call.targets k.written s.post q ++ clashing_after es Right l.call.targets l.written s.post q)
 
 abbrev pub by_callees : Declarations → Contract → Term → Term → Callee → Callee → Answer (List Goal)
 by_callees ds s p q k l =
-    if_few k.call.targets (if_few l.call.targets (unless_clash (clash_after_both k l s q)
+    if_few k.call.targets (if_few l.call.targets (unless_clash (clash_after_both (exclusions ds) k l s q)
     (by_both_globals k l s p q (with_types ds (left_of Left k s q)) (with_types ds (left_of Right l s q)))))
 
 abbrev pub of_callees : Declarations → Contract → Term → Term → Option Callee → Option Callee → Answer (List Goal)

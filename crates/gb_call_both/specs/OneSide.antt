@@ -28,6 +28,7 @@ use Rattle.gb_call.specs.Call.{Callee, before_call, callee_of, if_few, left_of, 
 use Rattle.gb_call.specs.LastCall.{last_call}
 use Rattle.gb_call.specs.Outcomes.{clash_after}
 use Rattle.gb_call.specs.Written.{with_types}
+use Rattle.gb_mods.specs.Exclusions.{exclusions}
 
 -- Forms that speak of programs, or of every memory.
 
@@ -82,7 +83,7 @@ where_full l a = full l >>= λ _. a
 
 abbrev pub by_side_callee : Declarations → Option Term → Contract → OneBody → Callee → Answer (List Goal)
 by_side_callee ds b s o k =
-    if_few k.call.targets (unless_speaking s (unless_clash (clash_after o.side k.call.targets k.written (located o.side s.post) o.post)
+    if_few k.call.targets (unless_speaking s (unless_clash (clash_after (exclusions ds) o.side k.call.targets k.written (located o.side s.post) o.post)
     (where_full (lost ds b k.call.procedure) (by_side_globals b s o k (with_types ds (left_of o.side k (on_side o.side s) o.post))))))
 
 abbrev pub of_side_callee : Declarations → Option Term → Contract → OneBody → Option Callee → Answer (List Goal)

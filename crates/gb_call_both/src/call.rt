@@ -33,12 +33,14 @@ use gb_forms::calls::Reads;
 use gb_goal::goal::{Code, Goal, equiv, goal_of};
 use gb_goal::scope::Scope;
 use gb_goal::sequent::{Sequent, Sequents};
+use gb_mods::exclusions::exclusions;
 use gb_parts::judged::equiv_of;
 use gb_parts::subgoals::{no_shape, shared_body, two_goals};
 use gb_steps::step::{Acts, Contract};
 use gb_terms::make::conjunction;
 use gb_terms::op::Side;
 use gb_terms::term::{Form, Subject};
+use gb_walk::clash::Excluded;
 use std::alloc::{AllocError, Global};
 
 /// A call, what is read after it on its side, and the globals that it writes and that are read.
@@ -192,16 +194,18 @@ fn by_both_globals(
 /// The least variable of a left side, or written global, with which another one clashes where it is replaced, on either side.
 #[tactic(auto, using(crate::proofs::BothSteps::least_both))]
 fn clash_after_both<'a>(
+    exclusions: &[Excluded],
     left: &Callee<'a>,
     right: &Callee<'a>,
     contract: &Contract,
     post: &Form,
 ) -> Option<&'a Var>
-    ensures { option_copied result ≡ clash_after_both (callee_seen left.now) (callee_seen right.now) contract.now post.now }
+    ensures { option_copied result ≡ clash_after_both exclusions.now (callee_seen left.now) (callee_seen right.now) contract.now post.now }
 {
     let said = &contract.post;
     let found = clashing_after(
         None,
+        exclusions,
         Side::Left,
         left.call.targets,
         left.written,
@@ -210,6 +214,7 @@ fn clash_after_both<'a>(
     );
     clashing_after(
         found,
+        exclusions,
         Side::Right,
         right.call.targets,
         right.written,
@@ -237,7 +242,8 @@ fn by_callees(
     if right.call.targets.len() >= MANY {
         return Err(no_shape());
     }
-    if let Some(var) = clash_after_both(left, right, contract, post) {
+    let excluded = exclusions(alloc, scope)?;
+    if let Some(var) = clash_after_both(excluded.as_slice(), left, right, contract, post) {
         return Err(side_condition(alloc, var));
     }
     by_both_globals(alloc, goal, scope, contract, pre, post, left, right)

@@ -30,6 +30,7 @@ use gb_full::lossless::full;
 use gb_goal::goal::Goal;
 use gb_goal::scope::Scope;
 use gb_goal::sequent::{Sequent, Sequents};
+use gb_mods::exclusions::exclusions;
 use gb_parts::forms::located;
 use gb_parts::one_body::{OneBody, filled, one_body, side_of};
 use gb_parts::subgoals::{no_shape, shared_body, two_goals};
@@ -209,7 +210,8 @@ fn by_callee(
     }
     let side = side_of(one.around);
     let here = on_side(alloc, side, contract)?;
-    if let Some(var) = clash_after(side, callee, &here, one.post) {
+    let excluded = exclusions(alloc, scope)?;
+    if let Some(var) = clash_after(excluded.as_slice(), side, callee, &here, one.post) {
         return Err(side_condition(alloc, var));
     }
     full_call(alloc, scope, surely, callee.call.procedure)?;

@@ -21,6 +21,7 @@ use Rattle.gb_goal.specs.Goal.Code.{body, procedure}
 use Rattle.gb_goal.specs.Goal.Goal.{hoare, phoare, equiv, ambient}
 use Rattle.gb_goal.specs.Rows.{refusing}
 use Rattle.gb_goal.specs.Scope.{Declarations, procedure_of}
+use Rattle.gb_mods.specs.Exclusions.{exclusions}
 use Rattle.gb_mods.specs.Written.{written}
 use Rattle.gb_prog.specs.Writes.{TypedVariable}
 use Rattle.gb_typing.proofs.Given.{refused_given, refused_at, same_given}
@@ -71,7 +72,7 @@ module _ (ds : Declarations) (s : Contract) (p q : Term) (Gs : List Goal) where
   callee_first : (k : Callee) → by_callee ds s p q k ≡ given Gs → IsFirst (said k.call.procedure) Gs
   callee_first k e =
       let a = by_globals k s p q (with_types ds (left_of side.Own k s q)) in
-      let o = clash_after side.Own k.call.targets k.written s.post q in
+      let o = clash_after (exclusions ds) side.Own k.call.targets k.written s.post q in
       globals_first k (with_types ds (left_of side.Own k s q)) (clear_given o a Gs (few_given k.call.targets (unless_clash o a) Gs e))
 
   declared_first : (k : LastCall) (m : Option Proc) (n : Option (List Var)) → of_callee ds s p q (callee k m n) ≡ given Gs → IsFirst (said k.procedure) Gs
@@ -96,7 +97,7 @@ module _ (ds : Declarations) (s : Contract) (p q : Term) (Gs : List Goal) where
     likely_callee : (k : Callee) → chances_by_callee ds s r p q b k ≡ given Gs → IsFirst (likely k.call.procedure) Gs
     likely_callee k e =
         let a = chances_by_globals ds k s r p q b (with_types ds (left_of side.Own k s q)) in
-        let o = clash_after side.Own k.call.targets k.written s.post q in
+        let o = clash_after (exclusions ds) side.Own k.call.targets k.written s.post q in
         chances_first k (with_types ds (left_of side.Own k s q)) (clear_given o a Gs (few_given k.call.targets (unless_clash o a) Gs e))
 
     likely_declared : (k : LastCall) (m : Option Proc) (n : Option (List Var)) → chances_of_callee ds s r p q b (callee k m n) ≡ given Gs → IsFirst (likely k.procedure) Gs
@@ -121,7 +122,7 @@ module _ (ds : Declarations) (s : Contract) (p q : Term) (Gs : List Goal) where
   callees_first : (k l : Callee) → by_callees ds s p q k l ≡ given Gs → IsFirst (alike k.call.procedure l.call.procedure) Gs
   callees_first k l e =
       let a = by_both_globals k l s p q (with_types ds (left_of side.Left k s q)) (with_types ds (left_of side.Right l s q)) in
-      let o = clash_after_both k l s q in
+      let o = clash_after_both (exclusions ds) k l s q in
       both_first k l (with_types ds (left_of side.Left k s q)) (with_types ds (left_of side.Right l s q))
       (clear_given o a Gs (few_given l.call.targets (unless_clash o a) Gs (few_given k.call.targets (if_few l.call.targets (unless_clash o a)) Gs e)))
 

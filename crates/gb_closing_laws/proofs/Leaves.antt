@@ -47,6 +47,8 @@ use Rattle.gb_typing.proofs.TypedGoals.{goal_conclusion}
 use Rattle.gb_typing.proofs.Lifted.{sequent_outermost}
 use Rattle.gb_amb.proofs.Itself.{meaning_is_of}
 use Rattle.gb_amb.proofs.Wider.{small}
+use Rattle.gb_mods.specs.Exclusions.{exclusions}
+use Rattle.gb_reads.specs.Memories.{AreKeptApart}
 use Rattle.gb_eval.specs.Eval.{operators_of}
 use Rattle.gb_eval.specs.Known.{is_known, known_of}
 use Rattle.gb_eval.specs.Meant.{AreBodies, AreOperators}
@@ -186,7 +188,7 @@ module _ (es : scope.Declarations) (scoped : IsTypedScope (declared es)) (bs : L
       concluded j vs ms x e = x (all_assumed j (context vs ms) hs ready.known_forms e) (λ simple. ready.conclusion)
 
     -- A claim that closes is true: labels stand for the globals of modules.
-    module _ (g : Setting) (fits : IsSettingOf c g) (bodies : AreBodies g es) (i : Judge) (fair : IsFair g i) (T : Reading) (s : State) (valid_here : IsReadingOf g T s) where
+    module _ (g : Setting) (fits : IsSettingOf c g) (bodies : AreBodies g es) (kept : AreKeptApart (exclusions es) g.types) (i : Judge) (fair : IsFair g i) (T : Reading) (s : State) (valid_here : IsReadingOf g T s) where
       abbrev j : Speaks
       j = speaking g i
 
@@ -235,13 +237,13 @@ module _ (es : scope.Declarations) (scoped : IsTypedScope (declared es)) (bs : L
         reads = (each_given (Reads (λ r a. read_types T r ≡ Some a)) reads_of hs hyps, reads_of t conclusion)
 
         abbrev h : Setting
-        h = models.h b g us fin ns fits apart i fair (read_types T) hs t typed valued reads closes.most closes.counted
+        h = models.h b g us fin ns fits apart (exclusions es) kept i fair (read_types T) hs t typed valued reads closes.most closes.counted
 
         abbrev k : Speaks
-        k = speaking h (models.k b g us fin ns fits apart i fair (read_types T) hs t typed valued reads closes.most closes.counted)
+        k = speaking h (models.k b g us fin ns fits apart (exclusions es) kept i fair (read_types T) hs t typed valued reads closes.most closes.counted)
 
         inhabited_there : IsInhabited h.types
-        inhabited_there = models.inhabited_there b g us fin ns fits apart i fair (read_types T) hs t typed valued reads closes.most closes.counted
+        inhabited_there = models.inhabited_there b g us fin ns fits apart (exclusions es) kept i fair (read_types T) hs t typed valued reads closes.most closes.counted
 
         once_there : (a : Name) → AreOnce (h.types.footprint (mexp.Name a))
         once_there a = (refl, tt)
@@ -252,23 +254,26 @@ module _ (es : scope.Declarations) (scoped : IsTypedScope (declared es)) (bs : L
         operators_there : AreOperators h (operators_of es)
         operators_there = subst (AreOperators h) (sym (of_is es)) (operators_sound h es bodies_there (length es))
 
+        apart_there : AreKeptApart (exclusions es) h.types
+        apart_there = models.right_apart b g us fin ns fits apart (exclusions es) kept i fair (read_types T) hs t typed valued reads closes.most closes.counted
+
         abbrev choice : (n : ℕ) × (n < choices closes.most) × (choice_at closes.most n ≡ chosen g.types closes.most)
-        choice = models.choice b g us fin ns fits apart i fair (read_types T) hs t typed valued reads closes.most closes.counted
+        choice = models.choice b g us fin ns fits apart (exclusions es) kept i fair (read_types T) hs t typed valued reads closes.most closes.counted
 
         are_labels : AreLabels h.types (choice_at closes.most choice.0)
-        are_labels = subst (AreLabels h.types) (sym choice.2) (models.are_labels b g us fin ns fits apart i fair (read_types T) hs t typed valued reads closes.most closes.counted)
+        are_labels = subst (AreLabels h.types) (sym choice.2) (models.are_labels b g us fin ns fits apart (exclusions es) kept i fair (read_types T) hs t typed valued reads closes.most closes.counted)
 
         abbrev vs : List Value
-        vs = models.vs b g us fin ns fits apart i fair (read_types T) hs t typed valued reads closes.most closes.counted s read_values
+        vs = models.vs b g us fin ns fits apart (exclusions es) kept i fair (read_types T) hs t typed valued reads closes.most closes.counted s read_values
 
         abbrev ms : List Memory
-        ms = models.ms b g us fin ns fits apart i fair (read_types T) hs t typed valued reads closes.most closes.counted s read_values
+        ms = models.ms b g us fin ns fits apart (exclusions es) kept i fair (read_types T) hs t typed valued reads closes.most closes.counted s read_values
 
         of_types : AreValues h.types us vs
-        of_types = models.are_values b g us fin ns fits apart i fair (read_types T) hs t typed valued reads closes.most closes.counted s read_values
+        of_types = models.are_values b g us fin ns fits apart (exclusions es) kept i fair (read_types T) hs t typed valued reads closes.most closes.counted s read_values
 
         as_true : OfClaim (IsAsTrue g j s h k (context vs ms)) hs t
-        as_true = models.as_true b g us fin ns fits apart i fair (read_types T) hs t typed valued reads closes.most closes.counted s read_values
+        as_true = models.as_true b g us fin ns fits apart (exclusions es) kept i fair (read_types T) hs t typed valued reads closes.most closes.counted s read_values
 
         both_true : (gs : List Term) → AllByRecursion (IsAsTrue g j s h k (context vs ms)) gs → AllByRecursion (λ f. truth (val g j f s) ≡ true) gs → AllByRecursion (λ f. truth (val h k f (context vs ms)) ≡ true) gs
         both_true [] a e = tt
@@ -278,7 +283,7 @@ module _ (es : scope.Declarations) (scoped : IsTypedScope (declared es)) (bs : L
         claim_true e =
             as_true.1
             ∙ (concluded h inhabited_there once_there bodies_there hs t typed.0 conclusion.form k vs ms
-            (closed_claim es h operators_there k (fair_is_right h _ (is_fair h)) (context vs ms) (T_there) (valid h inhabited_there once_there bodies_there hs t typed.0 conclusion.form vs of_types ms) hs t closes choice.0 choice.1 are_labels)
+            (closed_claim es h operators_there apart_there k (fair_is_right h _ (is_fair h)) (context vs ms) (T_there) (valid h inhabited_there once_there bodies_there hs t typed.0 conclusion.form vs of_types ms) hs t closes choice.0 choice.1 are_labels)
             (both_true hs as_true.0 e)).1
           where
             T_there : Reading
@@ -293,7 +298,7 @@ module _ (es : scope.Declarations) (scoped : IsTypedScope (declared es)) (bs : L
           (simple, claim_true hs t closes x.0 (record { simple = simple; form = f simple; fitting = fit simple }) x.1)
 
     -- A claim of forms that closes is true in each state of the context.
-    module _ (g : Setting) (fits : IsSettingOf c g) (bodies : AreBodies g es) (i : Judge) (fair : IsFair g i) (hs : List Term) (t : Term) (closes : Closes es (claim_of hs t)) (forms : AreForms c hs) (form : IsForm c t) where
+    module _ (g : Setting) (fits : IsSettingOf c g) (bodies : AreBodies g es) (kept : AreKeptApart (exclusions es) g.types) (i : Judge) (fair : IsFair g i) (hs : List Term) (t : Term) (closes : Closes es (claim_of hs t)) (forms : AreForms c hs) (form : IsForm c t) where
       each_form : (gs : List Term) → AreForms c gs → AllByRecursion (λ h. is_simple h ≡ true → IsForm c h) gs
       each_form [] w = tt
       each_form (h ∷ gs) w = ((λ k. w.0), each_form gs w.1)
@@ -301,7 +306,7 @@ module _ (es : scope.Declarations) (scoped : IsTypedScope (declared es)) (bs : L
       pub claim_holds : (vs : List Value) → AreValues g.types us vs → (ms : List Memory) → AreTrueIn g i (context vs ms) hs → den g i t (context vs ms) ≡ true
       claim_holds vs w ms e =
           (concluded g fits.types.inhabited fits.once bodies hs t forms form (speaking g i) vs ms
-          (claim_implied g fits bodies i fair (reads_at g fits.types.inhabited fits.once bodies hs t forms form) (context vs ms) (valid g fits.types.inhabited fits.once bodies hs t forms form vs w ms) hs t closes (each_form hs forms) (λ k. form)) e).1
+          (claim_implied g fits bodies kept i fair (reads_at g fits.types.inhabited fits.once bodies hs t forms form) (context vs ms) (valid g fits.types.inhabited fits.once bodies hs t forms form vs w ms) hs t closes (each_form hs forms) (λ k. form)) e).1
 
   -- a simple form is neither a quantifier over modules nor a judgment on bodies
   form_if_simple : (d : Context) (f : Term) → IsFormOrNone d f → is_simple f ≡ true → IsForm d f
@@ -314,7 +319,7 @@ module _ (es : scope.Declarations) (scoped : IsTypedScope (declared es)) (bs : L
   false_form : (d : Context) → IsForm d (truth_literal false)
   false_form d = let m = made_node d (head.Lit (Num 0)) [] [] bool_ty (bool_literal 0 (omega arith)) tt [] tt in record { typed = m.typed; truth = m.written }
 
-  module _ (g : Setting) (bodies : AreBodies g es) (i : Judge) (fair : IsFair g i) (us0 : List Ty) (ns0 : List Frame) (fits : IsSettingOf (small b us0 ns0) g) where
+  module _ (g : Setting) (bodies : AreBodies g es) (kept : AreKeptApart (exclusions es) g.types) (i : Judge) (fair : IsFair g i) (us0 : List Ty) (ns0 : List Frame) (fits : IsSettingOf (small b us0 ns0) g) where
     right : IsRight g (speaking g i)
     right = fair_is_right g i fair
 
@@ -348,18 +353,18 @@ module _ (es : scope.Declarations) (scoped : IsTypedScope (declared es)) (bs : L
 
           gives : (hs : List Term) (t : Term) → AllByRecursion (λ h. IsForm d h × IsAssumed g (speaking g i) T s h) hs → (is_simple t ≡ true → IsForm d t) × FitsIfSimple g T t → Closes es (claim_of hs t) → IsConcluded g (speaking g i) s t
           gives hs t p q c =
-              claim_implied w.variables w.finite w.frames.0 g (setting_moved b g us0 w.variables ns0 (map (λ l. Some l) w.frames.0) fits) bodies i fair T s valid_here hs t c
+              claim_implied w.variables w.finite w.frames.0 g (setting_moved b g us0 w.variables ns0 (map (λ l. Some l) w.frames.0) fits) bodies kept i fair T s valid_here hs t c
               (subst (λ ns. AllByRecursion (λ h. is_simple h ≡ true → IsForm (small b w.variables ns) h) hs) w.frames.1 (forms hs p)) (subst (λ ns. is_simple t ≡ true → IsForm (small b w.variables ns) t) w.frames.1 q.0) (assumed hs p) q.1
 
     pub leaf_holds : (l : Leaf) → IsTypedLeaf b l → ClosesByClaim es l → LeafHolds g (speaking g i) l
     leaf_holds l w closes = used_holds g (speaking g i) right (length l.hyps) l (claims_hold (used_up l) (used_typed b (length l.hyps) l w) closes)
 
-  pub claimed_is_true : (g : Setting) → AreBodies g es → (i : Judge) → IsFair g i → (l : Leaf) → ClosesByClaim es l → IsTrueLeaf b g i l
-  claimed_is_true g bodies i fair l closes us fin ns fr fits forms form vs w ms assumed =
+  pub claimed_is_true : (g : Setting) → AreBodies g es → AreKeptApart (exclusions es) g.types → (i : Judge) → IsFair g i → (l : Leaf) → ClosesByClaim es l → IsTrueLeaf b g i l
+  claimed_is_true g bodies kept i fair l closes us fin ns fr fits forms form vs w ms assumed =
       let e : ns ≡ map (λ l. Some l) fr.0 = fr.1 in
       let fits_in : IsSettingOf (small b us (map (λ l. Some l) fr.0)) g = subst (λ n. IsSettingOf (small b us n) g) e fits in
       let forms_in : AreForms (small b us (map (λ l. Some l) fr.0)) l.hyps = subst (λ n. AreForms (small b us n) l.hyps) e forms in
       let form_in : IsForm (small b us (map (λ l. Some l) fr.0)) l.conclusion = subst (λ n. IsForm (small b us n) l.conclusion) e form in
       let typed : IsTypedLeaf b l = record { variables = us; finite = fin; memories = ns; frames = fr; hyps = forms; conclusion = λ m j. form } in
       (concluded us fin fr.0 g fits_in.types.inhabited fits_in.once bodies l.hyps l.conclusion forms_in form_in (speaking g i) vs ms
-      (leaf_holds g bodies i fair us ns fits l typed closes _ (context vs ms) (valid us fin fr.0 g fits_in.types.inhabited fits_in.once bodies l.hyps l.conclusion forms_in form_in vs w ms)) assumed).1
+      (leaf_holds g bodies kept i fair us ns fits l typed closes _ (context vs ms) (valid us fin fr.0 g fits_in.types.inhabited fits_in.once bodies l.hyps l.conclusion forms_in form_in vs w ms)) assumed).1

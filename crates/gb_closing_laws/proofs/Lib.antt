@@ -20,5 +20,6 @@ pub mod TypedLeaves
 pub mod UsedUp
 pub mod Simple
 pub mod LabelBodies
+pub mod KeptApart
 pub mod Leaves
 pub mod SmtIsSound

@@ -26,15 +26,20 @@ use Rattle.gb_laws.specs.Programs.{HaveFiniteTypes}
 use Rattle.gb_typing.specs.Context.{Context, Frame}
 use Rattle.gb_typing.specs.Typing.{IsForm}
 use Rattle.gb_typing.specs.Fits.{IsSettingOf}
+use Rattle.gb_typing.specs.Forms.{IsKeptOff}
+use Rattle.gb_typing.specs.Chosen.{IsChosenOver}
 use Rattle.gb_typing.specs.Scopes.{context_of, IsTypedScope}
 use Rattle.gb_typing.specs.Sequents.{with_modules, IsConclusion, AreHypotheses, of_sequent, IsTypedSequent}
 use Rattle.gb_typing.proofs.Conclusions.{formula_form}
-use Rattle.gb_typing.proofs.Models.{each_setting}
+use Rattle.gb_typing.proofs.Models.{each_chosen, each_setting}
 use Rattle.gb_typing.proofs.TypedGoals.{no_module}
 use Rattle.gb_typing.proofs.Lifted.{InEachSequent, joined, sequent_outermost}
 use Rattle.gb_amb.proofs.Cases.{conclusion_formula}
 use Rattle.gb_amb.proofs.Idle.{unchanged}
 use Rattle.gb_amb.proofs.Wider.{small}
+use Rattle.gb_mods.specs.Exclusions.{exclusions}
+use Rattle.gb_adversaries.proofs.KeptOff.{kept_off}
+use Rattle.gb_reads.specs.Memories.{AreKeptApart}
 use Rattle.gb_eval.specs.Meant.{AreBodies}
 use Rattle.gb_smt.specs.declared.leaves.Leaf.{Leaf}
 use Rattle.gb_smt.specs.Leaves as leaves
@@ -47,6 +52,7 @@ use Rattle.gb_smt_laws.proofs.Rule.{AreTrueForms, AreKnown, IsConcluded, conclus
 use Rattle.gb_smt_laws.proofs.Typed.{goal_ready}
 use Rattle.gb_smt_laws.specs.Alike.{RespectAlike}
 use Rattle.gb_smt_laws.proofs.Respects.{scope_respects}
+use Rattle.gb_closing_laws.proofs.KeptApart.{kept_apart}
 use Rattle.gb_closing_laws.proofs.Opening.{opening_start}
 use Rattle.gb_closing_laws.proofs.Places.{AreForms, AreTrueIn, IsTrueLeaf, Place, Given, both_given, assumed_given}
 use Rattle.gb_closing_laws.proofs.Split.{split_true}
@@ -81,7 +87,11 @@ module _ (es : scope.Declarations) (typed : IsTypedScope (declared es)) (q : Seq
   outermost : of_sequent (context_of ds) q t.frames ≡ c
   outermost = sequent_outermost ds q t.frames
 
-  module _ (k : Interpretation) (fits_at : IsSettingOf (of_sequent (context_of ds) q t.frames) (setting ds k)) (results : HasResults ds k) (vs : List Value) (of_types : AreValues (types_of ds k) us vs) (ms : List Memory) where
+  -- variables that don't clash are kept apart
+  abbrev IsKept : Interpretation → Type 0
+  IsKept k = AreKeptApart (exclusions es) (setting ds k).types
+
+  module _ (k : Interpretation) (fits_at : IsSettingOf (of_sequent (context_of ds) q t.frames) (setting ds k)) (kept : IsKept k) (results : HasResults ds k) (vs : List Value) (of_types : AreValues (types_of ds k) us vs) (ms : List Memory) where
     abbrev g : Setting
     g = setting ds k
 
@@ -140,7 +150,7 @@ module _ (es : scope.Declarations) (typed : IsTypedScope (declared es)) (q : Seq
 
       leaf_true : (l : Leaf) → IsClosed es l → IsTrueLeaf b g i l
       leaf_true l (inl e) = used_true b g i fair (length l.hyps) l (valid_is_true b g i (used_up l) respects e.valid)
-      leaf_true l (inr c) = claimed_is_true es typed q.modules t.modules g bodies i fair l c
+      leaf_true l (inr c) = claimed_is_true es typed q.modules t.modules g bodies kept i fair l c
 
       leaves_true : (ls : List Leaf) → All (IsClosed es) ls → AllByRecursion (IsTrueLeaf b g i) ls
       leaves_true [] a = tt
@@ -162,20 +172,26 @@ module _ (es : scope.Declarations) (typed : IsTypedScope (declared es)) (q : Seq
 
   module _ (known : List Term) (forms : AllByRecursion (IsForm (of_sequent (context_of ds) q t.frames)) known) (closed : All (IsClosed es) (leaves_of known q))
       (held : AllByRecursion (λ f. Holds ds (record q { conclusion = f })) known) where
-    -- what is known of a setting
-    abbrev IsFitting : Interpretation → Type 0
-    IsFitting k = (IsSettingOf (of_sequent (context_of ds) q t.frames) (setting ds k) × HasResults ds k) × AreKnown ds q known k
-
     abbrev Fits : Interpretation → Type 0
     Fits k = IsSettingOf (of_sequent (context_of ds) q t.frames) (setting ds k)
+
+    -- what is known of a setting
+    abbrev IsFitting : Interpretation → Type 0
+    IsFitting k = ((Fits k × IsKept k) × HasResults ds k) × AreKnown ds q known k
 
     settings : InEachSequent ds q Fits
     settings w size table model = each_setting ds typed q t.modules t.frames w size table model
 
+    kept_settings : InEachSequent ds q (λ k. Fits k × IsKept k)
+    kept_settings =
+        joined ds q Fits (IsChosenOver ds) (λ k. Fits k × IsKept k)
+        (λ k a b. (a, kept_apart (exclusions es) (setting ds k) (kept_off es typed (setting ds k) (record { interpretation = k; chosen = b; meant = refl }))))
+        settings (each_chosen ds typed q t.modules [])
+
     fitting : InEachSequent ds q IsFitting
     fitting =
-        joined ds q (λ k. Fits k × HasResults ds k) (AreKnown ds q known) IsFitting (λ k a b. (a, b))
-        (joined ds q Fits (HasResults ds) (λ k. Fits k × HasResults ds k) (λ k a b. (a, b)) settings (each_results ds typed q)) (all_known ds q known held)
+        joined ds q (λ k. (Fits k × IsKept k) × HasResults ds k) (AreKnown ds q known) IsFitting (λ k a b. (a, b))
+        (joined ds q (λ k. Fits k × IsKept k) (HasResults ds) (λ k. (Fits k × IsKept k) × HasResults ds k) (λ k a b. (a, b)) kept_settings (each_results ds typed q)) (all_known ds q known held)
 
     forms_here : AreForms c known
     forms_here = subst (λ c. AreForms c known) outermost forms
@@ -184,13 +200,13 @@ module _ (es : scope.Declarations) (typed : IsTypedScope (declared es)) (q : Seq
     ready k fit = goal_ready ds (setting ds k) fit.types.inhabited fit.once q t es (scope_bodies es k typed) known forms
 
     -- each leaf holds, where a claim closes each
-    module _ (k : Interpretation) (fit : Fits k) (i : Judge) (fair : IsFair (setting ds k) i) where
+    module _ (k : Interpretation) (fit : Fits k) (kept : IsKept k) (i : Judge) (fair : IsFair (setting ds k) i) where
       fit_here : IsSettingOf c (setting ds k)
       fit_here = subst (λ c. IsSettingOf c (setting ds k)) outermost fit
 
       leaves_hold : (ls : List Leaf) → AllByRecursion (IsTypedLeaf b) ls → AllByRecursion (ClosesByClaim es) ls → AllByRecursion (LeafHolds (setting ds k) (speaking (setting ds k) i)) ls
       leaves_hold [] w a = tt
-      leaves_hold (l ∷ ls) w a = (leaf_holds es typed q.modules t.modules (setting ds k) (scope_bodies es k typed) i fair us ns fit_here l w.0 a.0, leaves_hold ls w.1 a.1)
+      leaves_hold (l ∷ ls) w a = (leaf_holds es typed q.modules t.modules (setting ds k) (scope_bodies es k typed) kept i fair us ns fit_here l w.0 a.0, leaves_hold ls w.1 a.1)
 
     all_typed : AllByRecursion (IsTypedLeaf b) (leaves_of known q)
     all_typed =
@@ -200,14 +216,14 @@ module _ (es : scope.Declarations) (typed : IsTypedScope (declared es)) (q : Seq
     holds_by_claims : AllByRecursion (ClosesByClaim es) (leaves_of known q) → Holds ds q
     holds_by_claims a =
         joined ds q IsFitting IsFitting (IsConcluded ds q q.conclusion)
-        (λ k x y vs v ms h. conclusion_true ds k es known q (ready k x.0.0) vs v ms (λ i fair. leaves_hold k x.0.0 i fair (leaves_of known q) all_typed a) h (x.1 vs v ms h))
+        (λ k x y vs v ms h. conclusion_true ds k es known q (ready k x.0.0.0) vs v ms (λ i fair. leaves_hold k x.0.0.0 x.0.0.1 i fair (leaves_of known q) all_typed a) h (x.1 vs v ms h))
         fitting fitting
 
     by_leaves : has_module q.conclusion ≡ false → judges_bodies (out-Term q.conclusion).head ≡ false → Holds ds q
     by_leaves m j =
         joined ds q IsFitting IsFitting (IsConcluded ds q q.conclusion)
         (λ k x y vs v ms h. (without_modules ds q.conclusion k (context vs ms) m).1
-        (λ i fair. concluded k x.0.0 x.0.1 vs v ms i fair known forms_here closed m j h (x.1 vs v ms h)))
+        (λ i fair. concluded k x.0.0.0 x.0.0.1 x.0.1 vs v ms i fair known forms_here closed m j h (x.1 vs v ms h)))
         fitting fitting
 
     by_judged : has_module q.conclusion ≡ false → (j : Bool) → judges_bodies (out-Term q.conclusion).head ≡ j → Holds ds q
@@ -223,9 +239,9 @@ module _ (es : scope.Declarations) (typed : IsTypedScope (declared es)) (q : Seq
     closed_holds = by_conclusion (has_module q.conclusion) refl
 
   -- A claim of forms of the goal's context that closes is true in each setting of it.
-  pub claims_are_true : (g : Setting) → IsSettingOf (of_sequent (context_of ds) q t.frames) g → AreBodies g es → (i : Judge) → IsFair g i → (hs : List Term) (f : Term) →
+  pub claims_are_true : (g : Setting) → IsSettingOf (of_sequent (context_of ds) q t.frames) g → AreBodies g es → IsKeptOff (exclusions es) g → (i : Judge) → IsFair g i → (hs : List Term) (f : Term) →
       AreForms (of_sequent (context_of ds) q t.frames) hs → IsForm (of_sequent (context_of ds) q t.frames) f → Closes es (claim_of hs f) →
       (vs : List Value) → AreValues g.types us vs → (ms : List Memory) → AreTrueIn g i (context vs ms) hs → den g i f (context vs ms) ≡ true
-  claims_are_true g fits bodies i fair hs f forms form closes =
-      claim_holds es typed q.modules t.modules us (all_finite q.logical t.logical) t.frames g (subst (λ c. IsSettingOf c g) outermost fits) bodies i fair hs f closes
+  claims_are_true g fits bodies off i fair hs f forms form closes =
+      claim_holds es typed q.modules t.modules us (all_finite q.logical t.logical) t.frames g (subst (λ c. IsSettingOf c g) outermost fits) bodies (kept_apart (exclusions es) g off) i fair hs f closes
       (subst (λ c. AreForms c hs) outermost forms) (subst (λ c. IsForm c f) outermost form)

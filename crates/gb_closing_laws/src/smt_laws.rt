@@ -15,6 +15,8 @@ ghost use Rattle.gb_holds.specs.Declared.{declared};
 ghost use Rattle.gb_holds.specs.Holds.{AreValues, context, Holds};
 ghost use Rattle.gb_typing.specs.Sequents.{of_sequent, IsTypedSequent};
 ghost use Rattle.gb_typing.specs.Fits.{IsSettingOf};
+ghost use Rattle.gb_typing.specs.Forms.{IsKeptOff};
+ghost use Rattle.gb_mods.specs.Exclusions.{exclusions};
 ghost use Rattle.gb_typing.specs.Typing.{IsForm};
 ghost use Rattle.gb_typing.specs.Scopes.{context_of, IsTypedScope};
 ghost use Rattle.gb_eval.specs.Meant.{AreBodies};
@@ -41,10 +43,11 @@ pub fn smt_is_sound()
 
 /// A claim of typed forms that is narrow enough, and true under every assignment for each choice of numbers of labels from 1 up to the
 /// number of its things, is true in each setting of the context, whatever the globals of its modules: in each state in which its
-/// hypotheses are true its conclusion is, under each fair judge, where operators mean their bodies.
+/// hypotheses are true its conclusion is, under each fair judge, where operators mean their bodies and what restrictions exclude is kept
+/// off.
 pub fn labels_are_enough()
     ensures { (ds : Declarations) → IsTypedScope (declared ds) → (q : Sequent) (t : IsTypedSequent (context_of (declared ds)) q) → (g : Setting) →
-        IsSettingOf (of_sequent (context_of (declared ds)) q t.frames) g → AreBodies g ds → (i : Judge) → IsFair g i → (hyps : List Term) (f : Term) →
+        IsSettingOf (of_sequent (context_of (declared ds)) q t.frames) g → AreBodies g ds → IsKeptOff (exclusions ds) g → (i : Judge) → IsFair g i → (hyps : List Term) (f : Term) →
         AllByRecursion (IsForm (of_sequent (context_of (declared ds)) q t.frames)) hyps → IsForm (of_sequent (context_of (declared ds)) q t.frames) f →
         Closes ds (claim_of hyps f) → (vs : List Value) → AreValues g.types (map (λ x. x.ty) q.logical) vs → (ms : List Memory) →
         AllByRecursion (λ h. den g i h (context vs ms) ≡ true) hyps → den g i f (context vs ms) ≡ true }

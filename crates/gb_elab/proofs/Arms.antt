@@ -146,9 +146,9 @@ module _ (h : Head) (x : List ℕ) (ts : List Node) (p : Place) (at : Environmen
   unfolding typing
   equalities_is e = at_head head.Equalities e ∙ ap (λ us. equalities at bound us w p) (bare_meanings ts)
 
-  pub glob_is : h ≡ head.Glob → meaning ≡ whole_alone at bound (bare_glob ts None p) p
+  pub glob_is : h ≡ head.Glob → meaning ≡ (whole_alone at bound (bare_glob ts None p) p >>= wanted w p)
   unfolding typing
-  glob_is e = at_head head.Glob e ∙ ap (λ us. whole_alone at bound (bare_glob us None p) p) (bare_meanings ts)
+  glob_is e = at_head head.Glob e ∙ ap (λ us. whole_alone at bound (bare_glob us None p) p >>= wanted w p) (bare_meanings ts)
 
   pub compared_is : h ≡ head.Compared → meaning ≡ comparing (both_whole x ts) x (with_meanings ts) p at bound w
   unfolding typing

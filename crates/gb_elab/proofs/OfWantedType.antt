@@ -1,6 +1,6 @@
 -- What is typed has the wanted type.
 use Rattle.std.proofs.Common.{◌≡◌, ℕ, ◌==◌, ◌^◌, nat_lt, pos, Bool, true, false, ◌&&◌, if◌then◌else◌, List, [], ◌∷◌, ◌++◌, reverse, length, Option, Some, None, is_none, refl, ap, sym, subst, ◌∙◌}
-use Rattle.std.specs.Option.{option_map_or}
+use Rattle.std.specs.Option.{option_map, option_map_or}
 use Rattle.gb_core.specs.declared.place.Place.{Place}
 use Rattle.gb_core.specs.declared.refusal.Why.{Why}
 use Rattle.gb_core.specs.declared.refusal.Why.TheVariants.{Syntax, TypeMismatch, TypeTooLarge, Argument}
@@ -9,6 +9,7 @@ use Rattle.gb_core.specs.declared.ty.Ty.TheVariants as ty
 use Rattle.gb_core.specs.declared.ty.Ty.TheVariants.{Bool as bool_ty, Distr}
 use Rattle.gb_core.specs.declared.value.Value.TheVariants.{Num}
 use Rattle.gb_core.specs.declared.var.Var.{Var}
+use Rattle.gb_core.specs.declared.var.Var.TheVariants.{Glob, Global, Local}
 use Rattle.gb_limits.specs.Numbers.{number_of}
 use Rattle.gb_core.proofs.SameTypes.{ty_eq-Decides}
 use Rattle.gb_core.specs.SameTypes.{ty_eq}
@@ -34,7 +35,7 @@ use Rattle.gb_script.specs.Tree.{head_of, text_of, parts_of, place_of}
 use Rattle.gb_goal.specs.Answers.{Answer, ◌>>=◌, given_or}
 use Rattle.gb_goal.specs.Answers.Answer.{given, refused}
 use Rattle.gb_goal.specs.declared.scope.Constant.{Constant}
-use Rattle.gb_goal.specs.Scope.{Declarations}
+use Rattle.gb_goal.specs.Scope.{Declarations, abstract_of}
 use Rattle.gb_mods.specs.Footprint.{footprint}
 use Rattle.gb_goal.specs.declared.scope.OperatorType.{OperatorType}
 use Rattle.gb_names.specs.declared.binders.Quantifier.{Quantifier}
@@ -45,7 +46,7 @@ use Rattle.gb_names.specs.Allowed.{coin, distribution_here, formula, has_judgmen
 use Rattle.gb_names.specs.Binders.{bound_by, over, over_all, quantifier_of}
 use Rattle.gb_names.specs.Environment.{Environment, on_side}
 use Rattle.gb_names.specs.Judgments.{Named, both_procedures, called, one_procedure, before, after, equivalent}
-use Rattle.gb_names.specs.Modules.{whole_module}
+use Rattle.gb_terms.specs.declared.module.Bind.{Bind}
 use Rattle.gb_terms.specs.declared.module.Mexp.{Mexp}
 use Rattle.gb_terms.specs.SameModules.{mexp_eq}
 use Rattle.gb_names.specs.Names.{ModuleVariable, constant_at, global_variable, known_at, memory_at, operator_at, named, path, sided, unit}
@@ -69,7 +70,7 @@ use Rattle.gb_elab.specs.declared.contract.Contract.{Contract}
 use Rattle.gb_elab.specs.OneProcedure.{after_one, always, around, ends, lossless, one, relation, with_chance}
 use Rattle.gb_elab.specs.Probability.{before_call, chance, chance_here}
 use Rattle.gb_elab.specs.Equalities.{equalities, equality, equation, equation_of, joined, with_equalities}
-use Rattle.gb_elab.specs.Globs.{Seen, agreement, agreement_on, agreements, agrees, bare_glob, behind_if, both_whole, same_globals, global_named, true_if_none, whole_alone, whole_equation, whole_read, with_agreement}
+use Rattle.gb_elab.specs.Globs.{Seen, agreed, agreement, agreement_on, agreements, agrees, as_value, bare_glob, behind_if, both_whole, same_globals, global_named, owner, true_if_none, two_owners, whole_agrees, whole_alone, whole_equation, whole_read, whole_value, with_agreement}
 use Rattle.gb_elab.specs.Forms.{Meaning, Part, Typing, annotated, applied as applied_name, applied_form, application, bare, bounded, bracketed, bracketed_function, by_rule, call, comparing, contract, declared, equivalence, function_typing, hoare, meaning, meant, only, operand, operands, operation, operator_alone, plain_function, probability, projection, quantified, read, simple, summed, typed_function, typing, under, user_call, value_of, with_side}
 
 refused_not : {A : Type 0} (w : Why) (p : Place) (y : A) → refused w p ≡ given y → (C : Type 0) → C
@@ -136,13 +137,26 @@ behind_type : (o : Option Term) (e : Term) → type_of_term e ≡ bool_ty → ty
 behind_type None e k = k
 behind_type (Some f) e k = node_type (Builtin op.And) (f ∷ e ∷ []) bool_ty
 
-with_type : (s r : Side) (o : Option Term) (g : Option ModuleVariable) → IsTruthIf o → IsTruthIf (with_agreement s r o g)
-with_type s r o None h = h
-with_type s r o (Some g) h = behind_type o (agrees s r g) (node_type (Builtin op.Equal) (global_variable s g ∷ global_variable r g ∷ []) bool_ty)
+with_type : (o q : Option Term) → IsTruthIf o → IsTruthIf q → IsTruthIf (with_agreement o q)
+with_type o None h k = h
+with_type o (Some f) h k = behind_type o f k
+
+agrees_type : (s r : Side) (g : Option ModuleVariable) → IsTruthIf (option_map (agrees s r) g)
+agrees_type s r None = tt
+agrees_type s r (Some g) = node_type (Builtin op.Equal) (global_variable s g ∷ global_variable r g ∷ []) bool_ty
+
+whole_type : (s r : Side) (a : List ℕ) (b : Option Bind) → IsTruthIf (option_map (λ b. whole_agrees s r a) b)
+whole_type s r a None = tt
+whole_type s r a (Some b) = node_type (Builtin op.Equal) (whole_value s a ∷ whole_value r a ∷ []) bool_ty
+
+agreed_type : (ds : Declarations) (s r : Side) (x : Var) → IsTruthIf (agreed ds s r x)
+agreed_type ds s r (Glob a) = whole_type s r a (abstract_of ds a)
+agreed_type ds s r (Global n x) = agrees_type s r (global_named ds (Global n x))
+agreed_type ds s r (Local x) = tt
 
 agreements_type : (ds : Declarations) (s r : Side) (o : Option Term) (xs : List Var) → IsTruthIf o → IsTruthIf (agreements ds s r o xs)
 agreements_type ds s r o [] h = h
-agreements_type ds s r o (x ∷ xs) h = agreements_type ds s r (with_agreement s r o (global_named ds x)) xs (with_type s r o (global_named ds x) h)
+agreements_type ds s r o (x ∷ xs) h = agreements_type ds s r (with_agreement o (agreed ds s r x)) xs (with_type o (agreed ds s r x) h (agreed_type ds s r x))
 
 all_type : (o : Option Term) → IsTruthIf o → type_of_term (true_if_none o) ≡ bool_ty
 all_type None h = node_type (Lit (Num 1)) [] bool_ty
@@ -154,21 +168,30 @@ agreement_on_type ds s r p (Some xs) u h = ap type_of_term (sym (given_is _ u h)
 
 same_globals_type : (at : Environment) (bound : List Binding) (m : Node) (u : Term) → same_globals at bound m ≡ given u → type_of_term u ≡ bool_ty
 same_globals_type at bound m u h =
-    let n = given_bind (whole_module at bound m) (λ n. agreement at.declared n side.Left side.Right (place_of m)) u h in
+    let n = given_bind (owner at bound m) (λ n. agreement at.declared n side.Left side.Right (place_of m)) u h in
     agreement_on_type at.declared side.Left side.Right (place_of m) (footprint at.declared n.0) u n.2
+
+-- an equation of two modules is none
+two_not : (ds : Declarations) (l r : Mexp × Side) (p q : Place) (u : Term) → two_owners ds l r p q ≡ given u → (C : Type 0) → C
+two_not ds l r p q u h C =
+    let a = given_bind (as_value ds l p) (λ _. as_value ds r q >>= λ _. refused TypeMismatch q) u h in
+    let b = given_bind (as_value ds r q) (λ _. refused TypeMismatch q) u a.2 in
+    refused_not TypeMismatch q u b.2 C
+
+either_type : (b : Bool) (x y : Answer Term) (u : Term) → (x ≡ given u → type_of_term u ≡ bool_ty) → (y ≡ given u → type_of_term u ≡ bool_ty) → (if b then x else y) ≡ given u → type_of_term u ≡ bool_ty
+either_type true x y u f g h = f h
+either_type false x y u f g h = g h
 
 whole_equation_has : (at : Environment) (bound : List Binding) (w : Option Ty) (p : Place) (a b : Seen) (u : Term) → whole_equation at bound w p a b ≡ given u → HasType w u
 whole_equation_has at bound w p a b u h =
-    let end = λ (l r : Mexp × Side). if mexp_eq l.0 r.0 then agreement at.declared l.0 l.1 r.1 p else refused Argument a.2 in
+    let end = λ (l r : Mexp × Side). if mexp_eq l.0 r.0 then agreement at.declared l.0 l.1 r.1 p else two_owners at.declared l r a.2 b.2 in
     let q = given_bind (truth w p) (λ _. whole_read at bound a >>= λ l. whole_read at bound b >>= λ r. end l r) u h in
     let l = given_bind (whole_read at bound a) (λ l. whole_read at bound b >>= λ r. end l r) u q.2 in
     let r = given_bind (whole_read at bound b) (λ r. end l.0 r) u l.2 in
-    let k = if_else_refused (mexp_eq l.0.0 r.0.0) Argument a.2 (agreement at.declared l.0.0 l.0.1 r.0.1 p) u r.2 in
-    truth_has w p q.0 u q.1 (agreement_on_type at.declared l.0.1 r.0.1 p (footprint at.declared l.0.0) u k)
-
-alone_not : (at : Environment) (bound : List Binding) (o : Option Seen) (p : Place) (u : Term) → whole_alone at bound o p ≡ given u → (C : Type 0) → C
-alone_not at bound None p u h C = refused_not Syntax p u h C
-alone_not at bound (Some w) p u h C = let q = given_bind (whole_read at bound w) (λ _. refused Argument p) u h in refused_not Argument p u q.2 C
+    truth_has w p q.0 u q.1
+    (either_type (mexp_eq l.0.0 r.0.0) (agreement at.declared l.0.0 l.0.1 r.0.1 p) (two_owners at.declared l.0 r.0 a.2 b.2) u
+    (agreement_on_type at.declared l.0.1 r.0.1 p (footprint at.declared l.0.0) u)
+    (λ e. two_not at.declared l.0 r.0 a.2 b.2 u e (type_of_term u ≡ bool_ty)) r.2)
 
 equation_type : (at : Environment) (bound : List Binding) (h : Head) (x : List ℕ) (ts : List Node) (p : Place) (u : Term) → equation at bound h x ts p ≡ given u → type_of_term u ≡ bool_ty
 equation_type at bound head.Name x ts p u h = equality_type at bound x p u h
@@ -492,7 +515,7 @@ of_parts head.Uniform x ks p at bound w u h = uniform_has (bare (all ks)) p at w
 of_parts head.Weights x ks p at bound w u h = weights_has (bare (all ks)) p at bound w u h
 of_parts head.Apply x ks p at bound w u h = applied_form_has (all ks) p at bound w u h
 of_parts head.Equalities x ks p at bound w u h = equalities_has at bound (bare (all ks)) w p u h
-of_parts head.Glob x ks p at bound w u h = alone_not at bound (bare_glob (bare (all ks)) None p) p u h (HasType w u)
+of_parts head.Glob x ks p at bound w u h = let q = given_bind (whole_alone at bound (bare_glob (bare (all ks)) None p) p) (wanted w p) u h in wanted_has w p q.0 u q.2
 of_parts head.Compared x ks p at bound w u h = comparing_has (both_whole x (bare (all ks))) x (all ks) p at bound w u h
 of_parts head.Quantified x ks p at bound w u h = quantified_has x ks p at bound w u h
 of_parts head.Equiv x ks p at bound w u h = equivalence_has (all ks) p at bound w u h

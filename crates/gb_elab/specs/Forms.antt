@@ -310,7 +310,7 @@ typing head.Uniform x ps p at bound w = uniform (bare ps) p at w
 typing head.Weights x ps p at bound w = weights (bare ps) p at bound w
 typing head.Apply x ps p at bound w = applied_form ps p at bound w
 typing head.Equalities x ps p at bound w = equalities at bound (bare ps) w p
-typing head.Glob x ps p at bound w = whole_alone at bound (bare_glob (bare ps) None p) p
+typing head.Glob x ps p at bound w = whole_alone at bound (bare_glob (bare ps) None p) p >>= wanted w p
 typing head.Compared x ps p at bound w = compared x ps p at bound w
 typing head.Quantified x ps p at bound w = quantified x ps p at bound w
 typing head.Equiv x ps p at bound w = equivalence ps p at bound w

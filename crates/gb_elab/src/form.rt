@@ -144,7 +144,10 @@ fn typing(
         Head::Weights => weights(alloc, at, bound, parts, want, place),
         Head::Apply => applied_form(alloc, at, bound, parts, place, want),
         Head::Equalities => equalities(alloc, at, bound, parts, want, place),
-        Head::Glob => whole_alone(alloc, at, bound, bare_glob(parts, None, place), place),
+        Head::Glob => {
+            let whole = whole_alone(alloc, at, bound, bare_glob(parts, None, place), place);
+            wanted(whole, want, place)
+        }
         Head::Compared => compared(alloc, at, bound, text, parts, place, want),
         Head::Quantified => quantified(alloc, at, bound, text, parts, place, want),
         Head::Equiv => equivalence(alloc, at, bound, parts, place, want),
@@ -232,7 +235,8 @@ fn at_path(
     simple(alloc, at, bound, &name, want, place)
 }
 
-/// The typed tree of a form with a side, which is of a name; all globals of a module stand in equations alone.
+/// The typed tree of a form with a side, which is of a name, or of all globals of an abstract module; those of another module stand in
+/// equations alone.
 fn read(
     alloc: Global,
     at: &Setting<'_>,

@@ -8,8 +8,9 @@ ghost use Rattle.gb_goal.specs.Answers.Answer.{given};
 ghost use Rattle.gb_goal.specs.Scope.{module_of};
 ghost use Rattle.gb_names.specs.Environment.{environment};
 ghost use Rattle.gb_names.specs.Names.{global_in};
-ghost use Rattle.gb_elab.specs.Globs.{agreement, agreements, agrees, bare_glob, behind_if, both_whole, same_globals, global_named, memory_behind, memory_read, seeing, seen, side_read, true_if_none, whole_alone, whole_equation, whole_in, whole_read, with_braces, with_seen};
+ghost use Rattle.gb_elab.specs.Globs.{agreed, agreement, agreements, agrees, as_value, bare_glob, behind_if, both_whole, same_globals, global_named, is_abstract, memory_behind, memory_read, owner, seeing, seen, side_read, true_if_none, whole_agrees, whole_alone, whole_equation, whole_in, whole_read, whole_value, with_braces, with_seen};
 
+use gb_core::Shared;
 use gb_core::name::Name;
 use gb_core::place::Place;
 use gb_core::refusal::Refused;
@@ -21,9 +22,9 @@ use gb_names::allowed::truth;
 use gb_names::bindings::Binding;
 use gb_names::globals::{ModuleVariable, global_variable};
 use gb_names::memories::memory_at;
-use gb_names::modules::whole_module;
+use gb_names::modules::{complete, module_at};
 use gb_names::names::{first_named, side_of};
-use gb_names::refusals::{argument, not_built};
+use gb_names::refusals::{argument, mismatch, not_built};
 use gb_names::setting::{Language, Setting, Variables};
 use gb_script::head::Head;
 use gb_script::tree::Node;
@@ -85,6 +86,47 @@ fn agrees(
     make::equality(alloc, first, second).map_err(Refused::from)
 }
 
+/// All that is an abstract module's own, as one value, read in a memory.
+fn whole_value(alloc: Global, side: Side, module: &Name) -> Result<Term, AllocError>
+    ensures { IfOk result (λ made. made ≡ whole_value side «module».now) }
+{
+    let ty = Shared::new(alloc, Ty::Glob(module.copy(alloc)?))?;
+    let module = module.copy(alloc)?;
+    make::variable(alloc, Var::Glob { module }, side, ty)
+}
+
+/// .. is the same in two memories.
+fn whole_agrees(alloc: Global, left: Side, right: Side, module: &Name) -> Result<Form, AllocError>
+    ensures { IfOk result (λ made. made ≡ whole_agrees left right «module».now) }
+{
+    let first = whole_value(alloc, left, module)?;
+    let second = whole_value(alloc, right, module)?;
+    make::equality(alloc, first, second)
+}
+
+/// A variable of a footprint is the same in two memories; none where no module declares it, or where it is all globals of a module that
+/// isn't an abstract one.
+fn agreed(
+    alloc: Global,
+    scope: &Scope,
+    left: Side,
+    right: Side,
+    variable: &Var,
+) -> Result<Option<Form>, Refused>
+    ensures { Answers (given (agreed scope.now left right variable.now)) result }
+{
+    match variable {
+        Var::Glob { module } => match scope.abstract_module(module) {
+            Some(_) => Ok(Some(whole_agrees(alloc, left, right, module)?)),
+            None => Ok(None),
+        },
+        _ => match global_named(alloc, scope, variable)? {
+            Some(global) => Ok(Some(agrees(alloc, left, right, global)?)),
+            None => Ok(None),
+        },
+    }
+}
+
 /// A form behind others, if there are any.
 fn behind_if(alloc: Global, others: Option<Form>, form: Form) -> Result<Form, AllocError>
     ensures { IfOk result (λ made. made ≡ behind_if others form) }
@@ -107,8 +149,7 @@ fn agreements(
 {
     let mut form = None;
     for variable in list {
-        if let Some(global) = global_named(alloc, scope, variable)? {
-            let next = agrees(alloc, left, right, global)?;
+        if let Some(next) = agreed(alloc, scope, left, right, variable)? {
             form = Some(behind_if(alloc, form, next)?);
         }
     }
@@ -148,11 +189,34 @@ fn agreement(
     }
 }
 
-/// What `={glob M}` says: the globals that M's procedures read or write are the same in both programs.
+/// Whether it is an abstract module by itself; with modules for its parameters it isn't one any more.
+fn is_abstract(scope: &Scope, module: &Mexp) -> bool
+    ensures { result ≡ is_abstract scope.now «module».now }
+{
+    match module {
+        Mexp::Name(name) => scope.abstract_module(name).is_some(),
+        Mexp::Apply(..) => false,
+    }
+}
+
+/// The module of which all globals are meant: one that lacks nothing, or an abstract one.
+fn owner(alloc: Global, at: &Setting<'_>, bound: &[Binding], t: &Node) -> Result<Mexp, Refused>
+    ensures { Answers (owner (environment at.now) bound.now t.now) result }
+{
+    let known = module_at(alloc, at, bound, t)?;
+    if is_abstract(at.scope, &known.module) {
+        Ok(known.module)
+    } else {
+        complete(known, t.place)
+    }
+}
+
+/// What `={glob M}` says: the globals that M's procedures read or write are the same in both programs; of an abstract module all that is
+/// its own, as one value.
 ///
 /// # Errors
 ///
-/// Those of `whole_module`.
+/// Those of the module expression, which is to lack nothing, but where it is an abstract module.
 pub fn same_globals(
     alloc: Global,
     at: &Setting<'_>,
@@ -161,7 +225,7 @@ pub fn same_globals(
 ) -> Result<Form, Refused>
     ensures { Answers (same_globals (environment at.now) bound.now t.now) result }
 {
-    let module = whole_module(alloc, at, bound, t)?;
+    let module = owner(alloc, at, bound, t)?;
     agreement(alloc, at.scope, &module, Side::Left, Side::Right, t.place)
 }
 
@@ -305,18 +369,36 @@ fn whole_read(
     match at.language {
         Language::Formula | Language::Function => {
             let side = memory_read(alloc, at, bound, read.behind, read.place)?;
-            let module = whole_module(alloc, at, bound, read.owner)?;
+            let module = owner(alloc, at, bound, read.owner)?;
             Ok((module, side))
         }
         Language::Program | Language::Sampled | Language::Operator => Err(argument(read.place)),
     }
 }
 
-/// The refusal of all globals of a module in a place where they aren't compared.
+/// All globals of a module as one value, which those of an abstract module are.
+fn as_value(
+    alloc: Global,
+    scope: &Scope,
+    module: &Mexp,
+    side: Side,
+    place: Place,
+) -> Result<Term, Refused>
+    ensures { Answers (as_value scope.now («module».now, side) place) result }
+{
+    match module {
+        Mexp::Name(name) if scope.abstract_module(name).is_some() => {
+            whole_value(alloc, side, name).map_err(Refused::from)
+        }
+        _ => Err(argument(place)),
+    }
+}
+
+/// All globals of an abstract module, read in a place where they aren't compared.
 ///
 /// # Errors
 ///
-/// Those of the memory and of the module, else `Argument`.
+/// Those of the memory and of the module, and `Argument` where the module isn't an abstract one.
 pub fn whole_alone(
     alloc: Global,
     at: &Setting<'_>,
@@ -329,16 +411,16 @@ pub fn whole_alone(
     let Some(read) = read else {
         return Err(not_built(place));
     };
-    whole_read(alloc, at, bound, &read)?;
-    Err(argument(place))
+    let (module, side) = whole_read(alloc, at, bound, &read)?;
+    as_value(alloc, at.scope, &module, side, place)
 }
 
 /// The equation of all globals of a module in two memories.
 ///
 /// # Errors
 ///
-/// `TypeMismatch` where another type than that of truths is wanted; those of the memories and of the modules, from left to right;
-/// `Argument` of the left side, where the modules are two.
+/// `TypeMismatch` where another type than that of truths is wanted; those of the memories and of the modules, from left to right. Where
+/// the modules are two, `Argument` of the first side of which the module isn't abstract, else `TypeMismatch` of the right side.
 pub fn whole_equation(
     alloc: Global,
     at: &Setting<'_>,
@@ -356,6 +438,8 @@ pub fn whole_equation(
     if same_module(&first, &second) {
         agreement(alloc, at.scope, &first, from, to, place)
     } else {
-        Err(argument(left.place))
+        as_value(alloc, at.scope, &first, from, left.place)?;
+        as_value(alloc, at.scope, &second, to, right.place)?;
+        Err(mismatch(right.place))
     }
 }

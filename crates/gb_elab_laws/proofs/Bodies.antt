@@ -98,6 +98,9 @@ body_fits ds c vs names h = record {
   memories = λ e i k. absurd (false≢true e);
   locals = λ e i x t k. absurd (false≢true e);
   frames = λ e i k. absurd (false≢true e);
+  sides = λ e. absurd (false≢true (sym e));
+  together = λ e a k. absurd (false≢true e);
+  stand = λ e a k. absurd (false≢true e);
 }
 
 small_is : (t u : Term) → small t ≡ given u → t ≡ u

@@ -20,7 +20,7 @@ use Rattle.gb_goal.specs.Answers.{◌>>=◌}
 use Rattle.gb_goal.specs.Answers.Answer.{given}
 use Rattle.gb_names.specs.Environment.{Name, Environment, on_side}
 use Rattle.gb_elab.specs.Equalities.{equalities, equality, equation, equation_of, joined, with_equalities}
-use Rattle.gb_names.specs.Names.{path, sided}
+use Rattle.gb_names.specs.Names.{has_memories, path, sided}
 use Rattle.gb_typing.specs.Context.{Context}
 use Rattle.gb_elab_laws.specs.Fitting.{reads_globals, IsFitting, IsGiven}
 use Rattle.gb_elab_laws.proofs.Given.{given_bind, given_is, if_given, if_refused, out_type}
@@ -43,11 +43,11 @@ module _ {globs : Bool} (c : Context) (at : Environment) (vs : List Binding) (fi
       let e : b.0 ≡ a.0 = sym b.2.made.written ∙ sym (out_type r.0) ∙ same ∙ out_type l.0 ∙ a.2.made.written in
       subst (Typed globs c at.language ty.Bool) k.1 (combined c at.language op.Equal a.0 b.0 ty.Bool l.0 r.0 tt (no_distribution a.0 a.1, sym e, refl) a.2 b.2)
 
-  module _ (both : HasMemory (reads_globals at.language) c side.Left × HasMemory (reads_globals at.language) c side.Right) where
+  module _ (may : has_memories at.language ≡ true) (both : HasMemory (reads_globals at.language) c side.Left × HasMemory (reads_globals at.language) c side.Right) where
     equation_typed : (k : Head) (x : Name) (xs : List Node) (p : Place) (u : Term) → equation at vs k x xs p ≡ given u → Typed globs c at.language ty.Bool u
     equation_typed head.Name x xs p u h = equality_typed x p u h
     equation_typed head.Path x xs p u h = equality_typed (path xs) p u h
-    equation_typed head.EquatedGlob x (m ∷ []) p u h = same_globals_typed c at vs fit both m u h
+    equation_typed head.EquatedGlob x (m ∷ []) p u h = same_globals_typed c at vs fit may both m u h
     equation_typed _ x _ p u h = cc
 
     abbrev each_typed : (x : Node) (u : Term) → equation_of at vs x ≡ given u → Typed globs c at.language ty.Bool u
@@ -73,4 +73,4 @@ module _ {globs : Bool} (c : Context) (at : Environment) (vs : List Binding) (fi
   equalities_typed xs w p u h =
       let k = if_refused (is_none (on_side at side.Left)) Argument p (truth w p >>= λ _. joined at vs xs) u h in
       let q = given_bind (truth w p) (λ _. joined at vs xs) u k.1 in
-      truth_given c at.language w p q.0 u q.1 (joined_typed (both_memories globs (reads_globals at.language) c at.variables fit.variables k.0) xs u q.2)
+      truth_given c at.language w p q.0 u q.1 (joined_typed (fit.sides k.0) (both_memories globs (reads_globals at.language) c at.variables fit.variables k.0) xs u q.2)

@@ -1,5 +1,5 @@
 -- The contexts of statements, programs and functions fit their environments.
-use Rattle.std.proofs.Common.{◌≡◌, ℕ, zero, suc, ◌<◌, length, map, get_or, arith, Bool, true, false, if◌then◌else◌, List, [], ◌∷◌, Some, None, refl, ap, sym, ◌∙◌, subst}
+use Rattle.std.proofs.Common.{◌≡◌, ℕ, zero, suc, ◌<◌, length, map, get_or, arith, Bool, true, false, if◌then◌else◌, List, [], ◌∷◌, Some, None, is_some, bytes_eq, refl, ap, sym, ◌∙◌, subst}
 use Rattle.std.proofs.lemmas.Bool.{false≢true}
 use Rattle.gb_terms.specs.declared.decl.Module.{Module}
 use Rattle.gb_terms.specs.declared.decl.TypedName.{TypedName}
@@ -7,11 +7,14 @@ use Rattle.gb_terms.specs.declared.module.Bind.{Bind}
 use Rattle.gb_terms.specs.declared.module.ProcRef.{ProcRef}
 use Rattle.gb_goal.specs.Scope as scope
 use Rattle.gb_goal.specs.Interfaces.{procedure_type}
-use Rattle.gb_goal.specs.Scope.{module_of}
+use Rattle.gb_goal.specs.Scope.{abstract_of, as_abstract, entry_of, module_of}
+use Rattle.gb_goal.specs.declared.scope.Entry.{Entry}
+use Rattle.gb_goal.specs.declared.scope.Entry.TheVariants as entry
 use Rattle.gb_goal.specs.declared.sequent.Sequent.{Sequent}
 use Rattle.gb_meaning.specs.Names.{Name}
 use Rattle.gb_meaning.specs.Written.{local_type}
-use Rattle.gb_holds.specs.Declared.{Declarations, declared}
+use Rattle.gb_holds.specs.Declared.{Declarations, declaration_of, declared}
+use Rattle.gb_models.specs.Speaking.{IsFirm, IsFirmScope}
 use Rattle.gb_typing.specs.Modules.{ProcedureType}
 use Rattle.gb_laws.specs.Typing.{binder, IsMemory}
 use Rattle.gb_laws.specs.Typing.Binder.{program as module_binder}
@@ -27,11 +30,12 @@ use Rattle.gb_typing.proofs.DeclaredTypes.{goal_types}
 use Rattle.gb_typing.proofs.Growing.{goal_keeps}
 use Rattle.gb_typing.proofs.Lifted.{sequent_outermost}
 use Rattle.gb_typing.proofs.Located.{known_there}
+use Rattle.gb_typing.proofs.Together.{goal_together}
 use Rattle.gb_names.specs.declared.bindings.Binding.{Binding}
 use Rattle.gb_names.specs.Environment.{Environment, Memories, ambient, of_function, program, reading, relational, statement, unary}
 use Rattle.gb_names.specs.Environment.Memories.{outside}
 use Rattle.gb_elab_prog.specs.Contexts.{nothing_around}
-use Rattle.gb_elab_laws.specs.Fitting.{AllFiniteWith, AreBound, AreDeclared, AreIn, HasGlobals, IsTypeOf, IsFitting}
+use Rattle.gb_elab_laws.specs.Fitting.{AllFiniteWith, AreBound, AreDeclared, AreIn, HasGlobals, IsTypeOf, MayStand, IsFitting}
 use Rattle.gb_elab_laws.proofs.Given.{none_some}
 use Rattle.gb_elab_laws.proofs.Declared.{goal_declared}
 use Rattle.gb_elab_laws.proofs.KnownProcedures.{module_stands, procedure_variable}
@@ -77,6 +81,19 @@ goal_globals : (ds : scope.Declarations) → IsTypedScope (declared ds) → (q :
     HasGlobals (of_sequent (context_of (declared ds)) q fs).global n m
 goal_globals ds w q fs n m e = subst (λ f. HasGlobals f n m) (sym (globals_left (context_of (declared ds)) q.modules)) (declared_globals ds w n m e)
 
+-- no abstract module is declared in a script
+firm_entry : (e : Entry) → IsFirm (declaration_of e) → is_some (as_abstract (Some e)) ≡ true → false ≡ true
+firm_entry (entry.AbstractModule b) w h = absurd w
+firm_entry _ w h = h
+
+pub firm_stand : (ds : scope.Declarations) → IsFirmScope ds → MayStand false ds
+firm_stand [] w a h = h
+firm_stand (d ∷ ds) w a h = step (firm_stand ds w.1 a) (bytes_eq a d.0) h
+  where
+    step : (is_some (abstract_of ds a) ≡ true → false ≡ true) → (b : Bool) → is_some (as_abstract (if b then Some d.1 else entry_of ds a)) ≡ true → false ≡ true
+    step rest true k = firm_entry d.1 w.0 k
+    step rest false k = rest k
+
 -- no binder is around a goal
 goal_bound : (ds : Declarations) (q : Sequent) (fs : List (List TypedName)) → (of_sequent (context_of ds) q fs).bound ≡ []
 goal_bound ds q fs = ap (λ (c : Context). c.bound) (sequent_outermost ds q fs)
@@ -115,13 +132,16 @@ reading_fits m c at vs fit = record {
   memories = fit.memories;
   locals = fit.locals;
   frames = fit.frames;
+  sides = fit.sides;
+  together = fit.together;
+  stand = fit.stand;
 }
 
 -- the context of a goal without modules, whose variables are of types of values, and in whose memories no local is read
 pub context_fits : (globs : Bool) (ds : scope.Declarations) (q : Sequent) (fs : List (List TypedName)) → length fs ≡ length q.memories → q.modules ≡ [] →
-    ((i : ℕ) (x : Name) → goal_read_type (side.Memory i) x q ≡ None) → AllFiniteWith globs q.logical → IsTypedScope (declared ds) →
+    ((i : ℕ) (x : Name) → goal_read_type (side.Memory i) x q ≡ None) → AllFiniteWith globs q.logical → MayStand globs ds → IsTypedScope (declared ds) →
     IsFitting globs (of_sequent (context_of (declared ds)) q fs) (ambient ds q) []
-context_fits globs ds q fs many none unread h w = record {
+context_fits globs ds q fs many none unread h stand w = record {
   logical = λ i. refl;
   values = h;
   bound = subst (λ bs. AreBound globs bs []) (sym (goal_bound (declared ds) q fs)) tt;
@@ -134,15 +154,19 @@ context_fits globs ds q fs many none unread h w = record {
   memories = λ e. goal_memories (declared ds) q fs many;
   locals = λ e i x t k. none_some t (sym (unread i x) ∙ k);
   frames = λ e. goal_frames (declared ds) q fs;
+  sides = λ e. refl;
+  together = λ e a. goal_together ds w a q fs;
+  stand = λ e. stand;
 }
 
 -- a truth reads no local
 pub nothing_read : (i : ℕ) (x : Name) → read_type (side.Memory i) x (truth_literal true) ≡ None
 nothing_read i x = read_type_out (side.Memory i) x (truth_literal true) ∙ ap (λ z. if reads_local (side.Memory i) x z.head then Some z.ty else first_some (map (read_type (side.Memory i) x) z.args)) (out-roll-Term _)
 
-pub statement_fits : (ds : scope.Declarations) → IsTypedScope (declared ds) → IsFitting false (of_sequent (context_of (declared ds)) nothing_around []) (statement ds nothing_around) []
-statement_fits ds w =
-    reading_fits outside (of_sequent (context_of (declared ds)) nothing_around []) (ambient ds nothing_around) [] (context_fits false ds nothing_around [] refl refl (λ i x. nothing_read i x) tt w)
+pub statement_fits : (globs : Bool) (ds : scope.Declarations) → MayStand globs ds → IsTypedScope (declared ds) →
+    IsFitting globs (of_sequent (context_of (declared ds)) nothing_around []) (statement ds nothing_around) []
+statement_fits globs ds stand w =
+    reading_fits outside (of_sequent (context_of (declared ds)) nothing_around []) (ambient ds nothing_around) [] (context_fits globs ds nothing_around [] refl refl (λ i x. nothing_read i x) tt stand w)
 
 pub program_fits : (c : Context) (ds : scope.Declarations) (m : Module) (ls : List TypedName) → AreDeclared c.operator ds →
     ((n : Name) (k : Module) → module_of ds n ≡ Some k → HasGlobals c.global n k) → HasGlobals c.global m.name m → HaveVariableTypes ls →
@@ -160,6 +184,9 @@ program_fits c ds m ls names others own h = record {
   memories = λ e. absurd (false≢true e);
   locals = λ e. absurd (false≢true e);
   frames = λ e. absurd (false≢true e);
+  sides = λ e. absurd (false≢true (sym e));
+  together = λ e. absurd (false≢true e);
+  stand = λ e. absurd (false≢true e);
 }
 
 pub function_fits : (ds : scope.Declarations) → IsTypedScope (declared ds) → (q : Sequent) (t : IsTypedSequent (context_of (declared ds)) q) (ls rs xs ys : List TypedName) → AreIn true (Some ls) xs → AreIn true (Some rs) ys →
@@ -177,6 +204,9 @@ function_fits ds w q t ls rs xs ys h k = record {
   memories = λ e. goal_memories (declared ds) q t.frames t.memories;
   locals = λ e i x. goal_stands i x (context_of (declared ds)) q t;
   frames = λ e. goal_frames (declared ds) q t.frames;
+  sides = λ e. refl;
+  together = λ e a. goal_together ds w a q t.frames;
+  stand = λ e a k. refl;
 }
 
 -- forms of a proof step on one program, and on two, over some of the locals of the goal
@@ -195,6 +225,9 @@ one_fits ds w q t ls xs h = record {
   memories = λ e. goal_memories (declared ds) q t.frames t.memories;
   locals = λ e i x. goal_stands i x (context_of (declared ds)) q t;
   frames = λ e. goal_frames (declared ds) q t.frames;
+  sides = λ e. refl;
+  together = λ e a. goal_together ds w a q t.frames;
+  stand = λ e a k. refl;
 }
 
 pub two_fit : (ds : scope.Declarations) → IsTypedScope (declared ds) → (q : Sequent) (t : IsTypedSequent (context_of (declared ds)) q) (ls rs xs ys : List TypedName) → AreIn true (Some ls) xs →
@@ -212,6 +245,9 @@ two_fit ds w q t ls rs xs ys h k = record {
   memories = λ e. goal_memories (declared ds) q t.frames t.memories;
   locals = λ e i x. goal_stands i x (context_of (declared ds)) q t;
   frames = λ e. goal_frames (declared ds) q t.frames;
+  sides = λ e. refl;
+  together = λ e a. goal_together ds w a q t.frames;
+  stand = λ e a k. refl;
 }
 
 -- a goal of a typed scope, around which forms stand that steps bring
@@ -230,4 +266,7 @@ goal_fits ds w q t = record {
   memories = λ e. goal_memories (declared ds) q t.frames t.memories;
   locals = λ e i x. goal_stands i x (context_of (declared ds)) q t;
   frames = λ e. goal_frames (declared ds) q t.frames;
+  sides = λ e. refl;
+  together = λ e a. goal_together ds w a q t.frames;
+  stand = λ e a k. refl;
 }

@@ -61,7 +61,7 @@ use Rattle.gb_operators.specs.Rules.{asked, made, rule_for, rule_of, user_made}
 use Rattle.gb_elab.specs.declared.contract.Contract.{Contract}
 use Rattle.gb_elab.specs.OneProcedure.{after_one, always, around, before_one, lossless, relation, with_chance}
 use Rattle.gb_elab.specs.Probability.{before_call, chance, chance_here}
-use Rattle.gb_elab.specs.Globs.{Seen, bare_glob, both_whole}
+use Rattle.gb_elab.specs.Globs.{Seen, bare_glob, both_whole, whole_alone}
 use Rattle.gb_elab.specs.Forms.{Arguing, Contracting, Typing, Meaning, Part, annotated, applied, applied_form, application, arguing, arguments, arguments_of, bare, bounded, bracketed, by_rule, call, comparing, contract, contracting, contract_of, declared, elaborated, equivalence, function, hoare, function_typing, last_arguments, meaning, meant, only, operand, operands, operation, operator_alone, probability, projection, quantified, read, simple, summed, typing, under, user_call, value_of, with_side}
 use Rattle.gb_elab_laws.specs.Fitting.{reads_globals, IsFormType, IsFormTypeIf, IsBoundName, IsUsable, AreReadable, IsFitting, IsGiven}
 use Rattle.gb_elab_laws.proofs.Given.{given_bind, given_is, if_allowed, if_given, if_none, if_refused, if_some, none_some, not_given, some_given}
@@ -71,8 +71,8 @@ use Rattle.gb_elab_laws.proofs.Tested.{counting}
 use Rattle.gb_elab_laws.proofs.Measured.{measured, measured_form}
 use Rattle.gb_elab_laws.proofs.Globless.{form_with}
 use Rattle.gb_elab_laws.proofs.Typed.{EachTyped, given_from, of_script, truth_given, wanted_given, of_given}
-use Rattle.gb_elab_laws.proofs.Globs.{whole_equation_typed}
-use Rattle.gb_elab_laws.proofs.Leaves.{named_typed, none_alone, read_typed, unit_typed}
+use Rattle.gb_elab_laws.proofs.Globs.{read_typed, whole_alone_typed, whole_equation_typed}
+use Rattle.gb_elab_laws.proofs.Leaves.{named_typed, unit_typed}
 use Rattle.gb_elab_laws.proofs.Constants.{coin_typed, constant_typed, literal_typed, numeral_typed, stands_is, uniform_typed}
 use Rattle.gb_elab_laws.proofs.Weighed.{weights_typed}
 use Rattle.gb_elab_laws.proofs.Equations.{equalities_typed}
@@ -147,6 +147,9 @@ module _ (globs : Bool) where
     memories = λ e. fit.memories (sym same.2 ∙ e);
     locals = λ e. fit.locals (sym same.2 ∙ e);
     frames = λ e. fit.frames (sym same.2 ∙ e);
+    sides = λ e. same.2 ∙ fit.sides e;
+    together = λ e. fit.together (sym same.2 ∙ e);
+    stand = λ e. fit.stand (sym same.2 ∙ e);
   }
 
   pub given_alike : (c : Context) (l k : Language) → AreAlike l k → (w : Option Ty) (t : Term) → IsGiven globs c l w t → IsGiven globs c k w t
@@ -488,7 +491,9 @@ module _ (globs : Bool) where
   form_parts head.Weights x ks p c at vs fit w f u e = weights_typed c at vs fit (bare (parts ks)) p w u e
   form_parts head.Apply x ks p c at vs fit w f u e = applied_form_typed ks p c at vs fit w f u e
   form_parts head.Equalities x ks p c at vs fit w f u e = equalities_typed c at vs fit (bare (parts ks)) w p u e
-  form_parts head.Glob x ks p c at vs fit w f u e = absurd (none_alone c at vs fit (bare_glob (bare (parts ks)) None p) p u e)
+  form_parts head.Glob x ks p c at vs fit w f u e =
+      let q = given_bind (whole_alone at vs (bare_glob (bare (parts ks)) None p) p) (wanted w p) u e in
+      wanted_given c at.language w p q.0 u (whole_alone_typed c at vs fit (bare_glob (bare (parts ks)) None p) p q.0 q.1) q.2
   form_parts head.Compared x ks p c at vs fit w f u e = comparing_typed (both_whole x (bare (parts ks))) x ks p c at vs fit w f u e
   form_parts head.Quantified x ks p c at vs fit w f u e = quantified_typed x ks p c at vs fit w f u e
   form_parts head.Equiv x ks p c at vs fit w f u e = equiv_typed ks p c at vs fit w f u e

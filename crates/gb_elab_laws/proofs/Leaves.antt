@@ -5,7 +5,7 @@ use Rattle.std.specs.Path.{dot, rsplit_once}
 use Rattle.std.proofs.lemmas.Bool.{false≢true}
 use Rattle.std.proofs.lemmas.Slice.Eq.{bytes_eq-Decides}
 use Rattle.gb_core.specs.declared.place.Place.{Place}
-use Rattle.gb_core.specs.declared.refusal.Why.TheVariants.{UnknownName, Argument, Syntax}
+use Rattle.gb_core.specs.declared.refusal.Why.TheVariants.{UnknownName, Argument}
 use Rattle.gb_core.specs.declared.ty.Ty.{Ty}
 use Rattle.gb_core.specs.declared.ty.Ty.TheVariants as ty
 use Rattle.gb_core.specs.declared.value.Value.TheVariants.{Num}
@@ -21,7 +21,7 @@ use Rattle.gb_terms.specs.Make.{node, truth_literal}
 use Rattle.gb_script.specs.declared.head.Head.{Head}
 use Rattle.gb_script.specs.declared.head.Head.TheVariants as head
 use Rattle.gb_script.specs.declared.tree.Node.{Node}
-use Rattle.gb_script.specs.Tree.{head_of, text_of, place_of}
+use Rattle.gb_script.specs.Tree.{text_of, place_of}
 use Rattle.gb_laws.specs.Finite.{IsFinite, IsVariableType}
 use Rattle.gb_laws.specs.Typing.{binder, IsSide}
 use Rattle.gb_laws.specs.Operators.{item}
@@ -38,16 +38,14 @@ use Rattle.gb_names.specs.declared.bindings.Kind.TheVariants.{Value, Memory}
 use Rattle.gb_names.specs.Bindings.{binders_inside, innermost}
 use Rattle.gb_names.specs.Locals.{goal_read_type, local_if, locals_in}
 use Rattle.gb_names.specs.Environment.{Name, Environment, may_read, own, own_of, on_side, sides_of}
-use Rattle.gb_names.specs.Names.{ModuleVariable, first_named, global_at, global_in, global_of, global_variable, has_own, hidden, module_if, number_before, own_global, unit, unsided, bound_thing, bound_variable, logical_variable, program_variable, names_other, unbound, named, named_around, needs_side, no_variable, variable_on, sided, in_memory, path}
+use Rattle.gb_names.specs.Names.{ModuleVariable, first_named, global_at, global_in, global_of, global_variable, has_own, hidden, module_if, number_before, own_global, unit, unsided, bound_thing, bound_variable, logical_variable, program_variable, names_other, unbound, named, named_around, needs_side, no_variable, variable_on, sided, in_memory}
 use Rattle.gb_names.specs.Names.{beside, has_memories, may_name, memory_at, read_global, remembered, side_of}
-use Rattle.gb_elab.specs.Forms.{read}
-use Rattle.gb_elab.specs.Globs.{Seen, bare_glob, whole_alone, whole_read}
 use Rattle.gb_typing.specs.Context.{Frame, Context, erased, frame_of, local_in}
 use Rattle.gb_typing.specs.Typing.{IsFrame}
 use Rattle.gb_typing.proofs.Literals.{bool_literal}
 use Rattle.gb_typing.proofs.Variables.{variable_finite}
 use Rattle.gb_elab_laws.specs.Fitting.{reads_globals, AllFiniteWith, IsBoundTo, AreIn, AreReadable, HasGlobals, HasGlobalsIf, IsFitting}
-use Rattle.gb_elab_laws.proofs.Given.{given_bind, given_is, if_allowed, if_refused, counted_is, none_some, not_given, same_some}
+use Rattle.gb_elab_laws.proofs.Given.{given_bind, given_is, if_allowed, if_refused, counted_is, none_some, same_some}
 use Rattle.gb_elab_laws.proofs.Literals.{unit_literal}
 use Rattle.gb_elab_laws.proofs.Shapes.{with_globs, finite_form, variable_with}
 use Rattle.gb_elab_laws.proofs.Found.{Found, found, found_bound}
@@ -292,20 +290,8 @@ module _ {globs : Bool} (c : Context) (at : Environment) (vs : List Binding) (fi
   remembered_typed x m p u h =
       let k = if_allowed (has_memories at.language) (in_memory at vs x m p) Argument p u h in in_memory_typed k.0 x m p u k.1
 
-  beside_typed : (k : Head) (s : Node) (x : Name) (p : Place) (u : Term) → beside k s at vs x p ≡ given u → IsSome globs c at.language u
+  pub beside_typed : (k : Head) (s : Node) (x : Name) (p : Place) (u : Term) → beside k s at vs x p ≡ given u → IsSome globs c at.language u
   beside_typed head.Number s x p u h =
       let i = given_bind (side_of (text_of s) p) (λ i. sided at vs x i p) u h in
       let q = sided_typed x i.0 p u i.2 in (q.0, q.2)
   beside_typed _ m x p u h = let q = remembered_typed x m p u h in (q.0, q.2)
-
-  -- all globals of a module are given nowhere but in equations
-  pub none_alone : (o : Option Seen) (p : Place) (u : Term) → whole_alone at vs o p ≡ given u → ⊥
-  none_alone None p u e = not_given Syntax p u e
-  none_alone (Some w) p u e = let q = given_bind (whole_read at vs w) (λ _. refused Argument p) u e in not_given Argument p u q.2
-
-  -- a form with a side
-  pub read_typed : (k : Head) (x : Name) (xs : List Node) (p : Place) (s : Node) (u : Term) → read at vs k x xs p s ≡ given u → IsSome globs c at.language u
-  read_typed head.Name x xs p s u h = beside_typed (head_of s) s x p u h
-  read_typed head.Path x xs p s u h = beside_typed (head_of s) s (path xs) p u h
-  read_typed head.Glob x xs p s u h = absurd (none_alone (bare_glob xs (Some s) p) p u h)
-  read_typed _ x xs p s u h = cc

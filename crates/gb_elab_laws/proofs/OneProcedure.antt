@@ -59,6 +59,9 @@ module _ {globs : Bool} (c : Context) (at : Environment) (vs : List Binding) (fi
     memories = λ e. fit.memories (remembering at.language judges);
     locals = λ e. fit.locals (remembering at.language judges);
     frames = λ e. fit.frames (remembering at.language judges);
+    sides = λ e. refl;
+    together = λ e. fit.together (remembering at.language judges);
+    stand = λ e. fit.stand (remembering at.language judges);
   }
 
   -- a bound
@@ -76,6 +79,9 @@ module _ {globs : Bool} (c : Context) (at : Environment) (vs : List Binding) (fi
     memories = λ e. fit.memories (remembering at.language judges);
     locals = λ e. fit.locals (remembering at.language judges);
     frames = λ e. fit.frames (remembering at.language judges);
+    sides = λ e. refl;
+    together = λ e. fit.together (remembering at.language judges);
+    stand = λ e. fit.stand (remembering at.language judges);
   }
 
   pub always_typed : (k : Contract) → IsContract globs c k → Typed globs c at.language ty.Bool (always k)

@@ -67,6 +67,9 @@ module _ {globs : Bool} (c : Context) (at : Environment) (vs : List Binding) (fi
     memories = λ e. fit.memories (remembering at.language judges);
     locals = λ e. fit.locals (remembering at.language judges);
     frames = λ e. fit.frames (remembering at.language judges);
+    sides = λ e. refl;
+    together = λ e. fit.together (remembering at.language judges);
+    stand = λ e. fit.stand (remembering at.language judges);
   }
 
   module _ (f : ProcRef) (a : ProcedureType) (e : procedure_type at.declared at.inside f ≡ Some a) where

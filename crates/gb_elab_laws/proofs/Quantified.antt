@@ -120,6 +120,9 @@ module _ {globs : Bool} (at : Environment) where
     memories = fit.memories;
     locals = fit.locals;
     frames = λ e i. framed i (fit.frames e);
+    sides = fit.sides;
+    together = fit.together;
+    stand = fit.stand;
   }
     where
       readable : (vars : Variables) → AreReadable globs (reads_globals at.language) c vars → AreReadable globs (reads_globals at.language) (within c b f) vars

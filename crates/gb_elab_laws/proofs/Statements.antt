@@ -1,5 +1,6 @@
 -- What the typing of a lemma's statement gives is typed.
-use Rattle.std.proofs.Common.{◌≡◌, ℕ, suc, false, nat_lt, List, [], ◌∷◌, ◌++◌, length, map, Some, refl, ap, ◌∙◌, subst}
+use Rattle.std.proofs.Common.{◌≡◌, ℕ, suc, Bool, true, false, nat_lt, List, [], ◌∷◌, ◌++◌, length, map, Some, refl, ap, sym, ◌∙◌, subst}
+use Rattle.std.proofs.lemmas.List.{append-nil}
 use Rattle.gb_core.specs.declared.place.Place.{Place}
 use Rattle.gb_core.specs.declared.refusal.Why.TheVariants.{TooMany}
 use Rattle.gb_core.specs.declared.ty.Ty.TheVariants as ty
@@ -20,6 +21,7 @@ use Rattle.gb_typing.specs.Programs.{HaveVariableTypes}
 use Rattle.gb_holds.specs.Naming.{AnyName}
 use Rattle.gb_typing.specs.Naming.{NoName, EachGlobOf, TermNames}
 use Rattle.gb_names.specs.declared.setting.Language.TheVariants.{Formula}
+use Rattle.gb_models.specs.Speaking.{IsFirmScope}
 use Rattle.gb_holds.specs.Declared.{declared}
 use Rattle.gb_holds.specs.Truth.{has_module}
 use Rattle.gb_typing.specs.Context.{Context}
@@ -38,10 +40,10 @@ use Rattle.gb_elab_prog.specs.declared.context.Bound.{Bound}
 use Rattle.gb_elab_prog.specs.Contexts.{all_bound, around, in_context, nothing_bound}
 use Rattle.gb_elab_prog.specs.Contexts.{context_of as bound_context}
 use Rattle.gb_elab_laws.proofs.Given.{given_bind, given_is, if_refused}
-use Rattle.gb_elab_laws.specs.Fitting.{IsGiven}
+use Rattle.gb_elab_laws.specs.Fitting.{MayStand, IsGiven}
 use Rattle.gb_elab_laws.specs.Procedures.{IsOfProcedures}
 use Rattle.gb_elab_laws.proofs.BoundModules.{IsBound, all_typed, none_typed}
-use Rattle.gb_elab_laws.proofs.Fits.{context_fits, nothing_read, reading_fits}
+use Rattle.gb_elab_laws.proofs.Fits.{context_fits, firm_stand, nothing_read, reading_fits}
 use Rattle.gb_elab_laws.proofs.Forms.{elaborated_typed}
 use Rattle.gb_elab_laws.proofs.Members.{free_is}
 use Rattle.gb_elab_laws.proofs.Types.{have_finite}
@@ -57,7 +59,7 @@ pub record IsStated (ds : Declarations) (n : List ℕ) (q : Sequent) : Type 0 wh
   pub truth : IsTypedScope (declared ds) → type_of q.conclusion ≡ ty.Bool
   pub front : IsTypedScope (declared ds) → has_module q.conclusion ≡ false
   pub free : is_declared (declared ds) n ≡ false
-  pub speaks : IsTypedScope (declared ds) → IsOfProcedures q
+  pub speaks : IsTypedScope (declared ds) → IsFirmScope ds → IsOfProcedures q
 
 -- no local of a memory is read
 abbrev no_locals : List Name → List (List TypedName)
@@ -87,12 +89,12 @@ globless_values : (vs : List TypedName) → HaveVariableTypes vs → EachGlobOf 
 globless_values [] h = tt
 globless_values (v ∷ vs) h = (globless v.ty (finite_form false v.ty h.0), globless_values vs h.1)
 
-of_procedures : (c : Context) (b : Bound) (f : Term) → HaveVariableTypes b.values → IsForm (within c b) f → TermNames NoName AnyName f → IsOfProcedures (in_context b f)
+of_procedures : (c : Context) (b : Bound) (f : Term) → HaveVariableTypes b.values → IsForm (within c b) f → (b.modules ≡ [] → TermNames NoName AnyName f) → IsOfProcedures (in_context b f)
 of_procedures c b f h w k = record {
   hyps = refl;
   bodies = judges_procedures (within c b) f w.typed;
   front = goal_front (within c b) [] [] (of_form f) w;
-  speaks = record { logical = globless_values b.values h; hyps = tt; conclusion = k; bodies = bodies_speak NoName (within c b) f w.typed };
+  speaks = λ e. record { logical = globless_values b.values h; hyps = tt; conclusion = k e; bodies = bodies_speak NoName (within c b) f w.typed };
 }
 
 -- a form in the context of what is bound, where its modules are declared
@@ -100,23 +102,29 @@ module _ (ds : Declarations) (b : Bound) (t : Node) (f : Term) (e : elaborated t
   abbrev c : Context
   c = context_of (declared (around ds b))
 
-  claim_typed : IsBound ds b → IsGiven false (within c b) Formula (Some ty.Bool) f
-  claim_typed h =
+  claim_typed : (globs : Bool) → MayStand globs (around ds b) → IsBound ds b → IsGiven globs (within c b) Formula (Some ty.Bool) f
+  claim_typed globs stand h =
       let at = bound_context b in
-      let fits = context_fits false (around ds b) at (no_locals b.memories) (as_many b.memories) refl nothing_read (variables_with false b.values h.values) h.scope in
+      let fits = context_fits globs (around ds b) at (no_locals b.memories) (as_many b.memories) refl nothing_read (variables_with globs b.values h.values) stand h.scope in
       elaborated_typed t (within c b) (statement (around ds b) at) [] (reading_fits outside (within c b) (ambient (around ds b) at) [] fits) (Some ty.Bool) tt f e
 
   claim_form : IsBound ds b → IsForm (within c b) f
-  claim_form h = let g = claim_typed h in record { typed = g.typed; truth = g.wanted }
+  claim_form h = let g = claim_typed true (λ a k. refl) h in record { typed = g.typed; truth = g.wanted }
+
+  -- without modules it speaks of no module's globals together
+  claim_speaks : IsFirmScope ds → IsBound ds b → b.modules ≡ [] → TermNames NoName AnyName f
+  claim_speaks firm h none =
+      let g = claim_typed false (subst (λ bs. MayStand false (ds ++ binder_entries bs)) (sym none) (subst (MayStand false) (sym (append-nil ds)) (firm_stand ds firm))) h in
+      g.apart refl
 
   claim_stated : (n : List ℕ) → is_declared (declared ds) n ≡ false → (IsTypedScope (declared ds) → IsBound ds b) → IsStated ds n (in_context b f)
   claim_stated n free h = record {
     scope = λ w. (let k = h w in k.scope);
     goal = λ w. (let k = h w in form_typed c b f k.values (claim_form k));
-    truth = λ w. (let g = claim_typed (h w) in g.wanted);
+    truth = λ w. (let k = claim_form (h w) in k.truth);
     front = λ w. goal_front (within c b) [] [] (of_form f) (claim_form (h w));
     free = free;
-    speaks = λ w. (let k = h w in let g = claim_typed k in of_procedures c b f k.values (claim_form k) (g.apart refl));
+    speaks = λ w firm. (let k = h w in of_procedures c b f k.values (claim_form k) (claim_speaks firm k));
   }
 
 stated_typed : (ds : Declarations) (x : Node) (bs : List Node) (t : Node) (q : Sequent) → stated ds x bs t ≡ given q → IsStated ds (text_of x) q

@@ -1,5 +1,5 @@
 -- Contexts that fit environments, and what typing gives in them.
-use Rattle.std.specs.Prelude.{◌≡◌, ◌<◌, ℕ, length, Bool, true, false, List, [], ◌∷◌, map, Option, Some, None}
+use Rattle.std.specs.Prelude.{◌≡◌, ◌<◌, ℕ, length, Bool, true, false, List, [], ◌∷◌, map, Option, Some, None, is_none, is_some}
 use Rattle.gb_core.specs.declared.ty.Ty.{Ty}
 use Rattle.gb_core.specs.declared.ty.Ty.TheVariants as ty
 use Rattle.gb_terms.specs.declared.decl.Module.{Module}
@@ -11,7 +11,7 @@ use Rattle.gb_core.specs.declared.value.Value.TheVariants.{Num}
 use Rattle.gb_goal.specs.declared.scope.Constant.{Constant}
 use Rattle.gb_goal.specs.declared.scope.OperatorType.{OperatorType as DeclaredOperator}
 use Rattle.gb_goal.specs.Interfaces.{procedure_type}
-use Rattle.gb_goal.specs.Scope.{Declarations, constant_named, module_of, operator_named, type_named}
+use Rattle.gb_goal.specs.Scope.{Declarations, abstract_of, constant_named, module_of, operator_named, type_named}
 use Rattle.gb_meaning.specs.Names.{Name}
 use Rattle.gb_meaning.specs.Written.{type_of, local_type}
 use Rattle.gb_laws.specs.Plain.{IsPlain}
@@ -32,7 +32,7 @@ use Rattle.gb_names.specs.declared.setting.Language.{Language}
 use Rattle.gb_names.specs.declared.setting.Language.TheVariants.{Operator}
 use Rattle.gb_names.specs.declared.setting.Variables.{Variables}
 use Rattle.gb_names.specs.declared.setting.Variables.TheVariants.{Absent, Own, Sides}
-use Rattle.gb_names.specs.Environment.{Environment}
+use Rattle.gb_names.specs.Environment.{Environment, sides_of}
 use Rattle.gb_names.specs.Allowed.{has_judgments}
 use Rattle.gb_names.specs.Locals.{goal_read_type}
 use Rattle.gb_names.specs.Names.{first_named, has_memories}
@@ -122,12 +122,16 @@ abbrev pub HasGlobalsIf : (Name → Name → Option Ty) → Option Module → Ty
 HasGlobalsIf globals None = Unit {0}
 HasGlobalsIf globals (Some m) = HasGlobals globals m.name m
 
+-- Types of the globals of modules may stand, unless no abstract module is declared.
+abbrev pub MayStand : Bool → Declarations → Type 0
+MayStand globs ds = (a : Name) → is_some (abstract_of ds a) ≡ true → globs ≡ true
+
 -- A context that fits an environment, under bound names: what the environment gives a name stands there, at types of values; what
 -- is bound, at types of forms; what is declared stands with its types, and so do the globals of the module around; where globals may
 -- be read, those of each declared module do; where judgments may stand, which is outside of modules, each procedure that is known by
--- declarations does, also one of a module with modules for its parameters; and where named memories may be read, each memory of the
--- sequent, with the locals that the sequent reads in it, and each that is bound does. It is told whether types of the globals of modules
--- may stand.
+-- declarations does, also one of a module with modules for its parameters; and where named memories may be read, as they may on two
+-- programs, each memory of the sequent, with the locals that the sequent reads in it, and each that is bound does, and all globals of an
+-- abstract module that is declared may be read together. It is told whether types of the globals of modules may stand.
 pub record IsFitting (globs : Bool) (c : Context) (at : Environment) (vs : List Binding) : Type 0 where
   pub logical : (i : ℕ) → c.logical i ≡ item (map (λ x. x.ty) at.sequent.logical) i
   pub values : AllFiniteWith globs at.sequent.logical
@@ -142,6 +146,9 @@ pub record IsFitting (globs : Bool) (c : Context) (at : Environment) (vs : List 
   pub locals : has_memories at.language ≡ true → (i : ℕ) (x : Name) (t : Ty) → goal_read_type (side.Memory i) x at.sequent ≡ Some t →
       (local_in (frame_of c (side.Memory i)) x ≡ Some t) × IsFiniteWith globs t
   pub frames : has_memories at.language ≡ true → (i : ℕ) → IsMemory (binder (erased c) i) → IsFrame (frame_of c (side.Bound i))
+  pub sides : is_none (sides_of at.variables side.Left) ≡ false → has_memories at.language ≡ true
+  pub together : has_memories at.language ≡ true → (a : Name) → is_some (abstract_of at.declared a) ≡ true → c.has_globals a ≡ true
+  pub stand : has_memories at.language ≡ true → MayStand globs at.declared
 
 -- of the wanted type, where one is wanted
 abbrev pub IsWanted : Option Ty → Ty → Type 0

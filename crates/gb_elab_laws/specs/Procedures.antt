@@ -13,12 +13,12 @@ use Rattle.gb_typing.specs.Sequents.{IsTypedSequent}
 use Rattle.gb_typing.specs.Scopes.{context_of}
 use Rattle.gb_models.specs.Speaking.{GoalSpeaks}
 
--- A goal without hypotheses, whose conclusion is no judgment on bodies and quantifies over no module in front, and which speaks of no
--- module's globals together. Its context may have modules.
+-- A goal without hypotheses, whose conclusion is no judgment on bodies and quantifies over no module in front. Its context may have
+-- modules; where it has none, the goal speaks of no module's globals together.
 pub record IsOfProcedures (q : Sequent) : Type 0 where
   pub hyps : q.hyps ≡ []
   pub bodies : judges_bodies (out-Term q.conclusion).head ≡ false
-  pub speaks : GoalSpeaks NoName q
+  pub speaks : q.modules ≡ [] → GoalSpeaks NoName q
   pub front : has_module q.conclusion ≡ false
 
 -- the lemmas of a scope that bind no modules state typed goals about procedures

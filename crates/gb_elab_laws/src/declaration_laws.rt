@@ -47,8 +47,9 @@ pub fn modules()
 {}
 
 /// In a typed scope, the goal that a lemma states is a typed goal, its conclusion is a truth in front of which no module is
-/// quantified, and the lemma's name is free. The goal has no hypotheses, judges no bodies, and speaks of no module's globals together.
-/// The modules that it binds may be declared behind the scope, which stays typed, and there it is a typed goal without them.
+/// quantified, and the lemma's name is free. The goal has no hypotheses and judges no bodies; where it binds no module, in a script without
+/// abstract modules, it speaks of no module's globals together. The modules that it binds may be declared behind the scope, which stays
+/// typed, and there it is a typed goal without them.
 pub fn statements()
     ensures typed { (ds : scope.Declarations) → IsTypedScope (declared ds) → (t : Node) (q : Sequent) → statement_given ds t ≡ given q →
         IsTypedSequent (context_of (declared ds)) q }
@@ -62,7 +63,7 @@ pub fn statements()
         has_module q.conclusion ≡ false }
     ensures free { (ds : scope.Declarations) → (t : Node) (q : Sequent) → statement_given ds t ≡ given q →
         is_declared (declared ds) (lemma_name t) ≡ false }
-    ensures procedures { (ds : scope.Declarations) → IsTypedScope (declared ds) → (t : Node) (q : Sequent) → statement_given ds t ≡ given q →
+    ensures procedures { (ds : scope.Declarations) → IsTypedScope (declared ds) → IsFirmScope ds → (t : Node) (q : Sequent) → statement_given ds t ≡ given q →
         IsOfProcedures q }
 {}
 

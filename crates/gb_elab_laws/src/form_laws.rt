@@ -29,7 +29,7 @@ ghost use Rattle.gb_names.specs.declared.bindings.Binding.{Binding};
 ghost use Rattle.gb_names.specs.Environment.{Environment, of_function, program, statement};
 ghost use Rattle.gb_elab.specs.Forms.{elaborated, function};
 ghost use Rattle.gb_elab_prog.specs.Contexts.{nothing_around};
-ghost use Rattle.gb_elab_laws.specs.Fitting.{IsFormType, IsFormTypeIf, AreDeclared, AreIn, HasGlobals, IsFitting, IsGiven};
+ghost use Rattle.gb_elab_laws.specs.Fitting.{IsFormType, IsFormTypeIf, AreDeclared, AreIn, HasGlobals, MayStand, IsFitting, IsGiven};
 ghost use Rattle.gb_elab_laws.specs.Known.{known_in};
 
 /// In a context that fits the environment, what a form is elaborated to is a well-typed term of the wanted type, where this is one
@@ -46,12 +46,13 @@ pub fn functions()
         function t at a b ≡ given u → IsGiven globs (within c (value a) None) at.language (Some b) u }
 {}
 
-/// The contexts that fit the environments in which forms stand: that of a statement, those of programs, where what is declared
+/// The contexts that fit the environments in which forms stand: that of a statement, in which types of the globals of modules may stand
+/// and needn't where no abstract module is declared, those of programs, where what is declared
 /// stands and the globals of its module do, and those of the functions of a proof step, over some of the locals of its goal. A typed
 /// scope stands in its context, with the globals of its modules.
 pub fn environments()
-    ensures statement { (ds : scope.Declarations) → IsTypedScope (declared ds) →
-        IsFitting false (of_sequent (context_of (declared ds)) nothing_around []) (statement ds nothing_around) [] }
+    ensures statement { (globs : Bool) (ds : scope.Declarations) → MayStand globs ds → IsTypedScope (declared ds) →
+        IsFitting globs (of_sequent (context_of (declared ds)) nothing_around []) (statement ds nothing_around) [] }
     ensures names { (ds : scope.Declarations) → IsTypedScope (declared ds) → AreDeclared (context_of (declared ds)).operator ds }
     ensures globals { (ds : scope.Declarations) → IsTypedScope (declared ds) → (n : Name) (m : Module) → module_of ds n ≡ Some m →
         HasGlobals (context_of (declared ds)).global n m }

@@ -19,7 +19,7 @@ use Rattle.gb_script.specs.declared.head.Head.TheVariants as head
 use Rattle.gb_script.specs.declared.tree.Node.{Node}
 use Rattle.gb_script.specs.Tree.{head_of, text_of, parts_of, place_of}
 use Rattle.gb_names.specs.Names.{no_declared}
-use Rattle.gb_mods.specs.Reach.{signature_of}
+use Rattle.gb_mods.specs.Asked.{signature_of}
 use Rattle.gb_elab_stmt.specs.Targets.{spelled_by}
 use Rattle.gb_elab_prog.specs.Bound.{parameter_name}
 use Rattle.gb_elab_prog.specs.Fresh.{free}

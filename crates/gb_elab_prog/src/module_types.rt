@@ -17,7 +17,7 @@ use gb_core::refusal::Refused;
 use gb_goal::interface::signatures_of;
 use gb_goal::module_type::{MayCall, ModuleType, Oracle, Oracles, Signature, Signatures};
 use gb_goal::scope::{Entries, Entry, Scope};
-use gb_mods::reach::signature_named;
+use gb_mods::asked::signature_named;
 use gb_names::globals::no_declared;
 use gb_names::names::spelled;
 use gb_names::refusals::{argument, double, not_built, unknown};

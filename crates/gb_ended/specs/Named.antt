@@ -1,5 +1,5 @@
 -- Which modules a module names, through all modules that it names.
-use Rattle.std.specs.Prelude.{ℕ, Bool, false, ◌||◌, if◌then◌else◌, List, [], ◌∷◌, ◌++◌, Option, Some, None, bytes_eq}
+use Rattle.std.specs.Prelude.{ℕ, Bool, false, ◌||◌, if◌then◌else◌, List, [], ◌∷◌, ◌++◌, Option, Some, bytes_eq}
 use Rattle.gb_core.specs.declared.var.Var.{Var}
 use Rattle.gb_core.specs.declared.var.Var.TheVariants as var
 use Rattle.gb_terms.specs.declared.decl.Module.{Module}
@@ -12,7 +12,7 @@ use Rattle.gb_goal.specs.Scope.{Declarations}
 use Rattle.gb_goal.specs.declared.scope.Entry.{Entry}
 use Rattle.gb_goal.specs.declared.scope.Entry.TheVariants as entry
 use Rattle.gb_mods.specs.Called.{calls}
-use Rattle.gb_mods.specs.Touched.{touched_itself}
+use Rattle.gb_mods.specs.Touched.{touched_in}
 
 abbrev mutual
   -- the modules that a module expression names
@@ -46,7 +46,7 @@ owners (x ∷ xs) = owner x ++ owners xs
 
 -- the modules that a procedure names itself: those of the procedures that it calls, and the owners of the globals that it reads or writes
 abbrev pub named_by : Proc → List (List ℕ)
-named_by f = modules_of (calls f.body.list) ++ owners (touched_itself (Some f))
+named_by f = modules_of (calls f.body.list) ++ owners (touched_in f)
 
 -- the same of several procedures
 abbrev pub named_in : List Proc → List (List ℕ)

@@ -10,7 +10,7 @@ use gb_core::same::same_name;
 use gb_core::var::Var;
 use gb_goal::scope::{Entry, Scope};
 use gb_mods::called::calls;
-use gb_mods::touched::touched_itself;
+use gb_mods::touched::touched_in;
 use gb_terms::decl::{Module, Param, Proc};
 use gb_terms::module::{Mexp, ProcRef};
 use sqlite_items::Items;
@@ -86,7 +86,7 @@ pub fn named_by(alloc: Global, found: Names, procedure: &Proc) -> Result<Names, 
     ensures { IfOk result (λ made. made ≡ found ++ named_by procedure.now) }
 {
     let called = calls(alloc, Items::new(alloc), procedure.body.list.as_slice())?;
-    let touched = touched_itself(alloc, procedure)?;
+    let touched = touched_in(alloc, procedure)?;
     let found = modules_of(alloc, found, called.as_slice())?;
     owners(alloc, found, touched.as_slice())
 }

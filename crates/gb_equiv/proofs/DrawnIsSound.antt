@@ -40,17 +40,22 @@ use Rattle.gb_typing.proofs.Clashes.{left_of_no_clash}
 use Rattle.gb_typing.proofs.Fitting.{fits_reframed, state_at}
 use Rattle.gb_goal.specs.Answers.Answer.{given}
 use Rattle.gb_goal.specs.Goal.{Goal}
+use Rattle.gb_goal.specs.Scope.{Declarations}
+use Rattle.gb_holds.specs.Declared.{declared}
+use Rattle.gb_mods.specs.Exclusions.{exclusions}
+use Rattle.gb_adversaries.proofs.KeptOff.{kept_off}
 use Rattle.gb_goal.specs.Goal.Code.{body}
 use Rattle.gb_goal.specs.Goal.Goal.{hoare}
 use Rattle.gb_walk.specs.Clash.{first_clash}
 use Rattle.gb_typing.specs.Forms.{IsAlone}
 use Rattle.gb_typing.specs.Meaning.{run}
-use Rattle.gb_typing.specs.Rules.{outermost, Implies}
+use Rattle.gb_typing.specs.Rules.{outermost, ImpliesIn}
+use Rattle.gb_typing.specs.Scopes.{IsTypedScope}
 use Rattle.gb_typing.specs.Samplings.{Sampling, last_sampling}
 use Rattle.gb_typing.specs.Supports.{nearest}
 use Rattle.gb_typing.specs.Goals.{IsGoalOver}
 use Rattle.gb_typing.proofs.ClashFree.{one_clear}
-use Rattle.gb_typing.proofs.Given.{AreSound, refused_given, same_given}
+use Rattle.gb_typing.proofs.Given.{AreSoundIn, refused_given, same_given}
 use Rattle.gb_typing.proofs.Quantified.{inner_typed, inner_meaning}
 use Rattle.gb_typing.proofs.Runs.{run_append}
 use Rattle.gb_typing.proofs.LastSampling.{IsDrawn, drawn, last_one}
@@ -58,7 +63,7 @@ use Rattle.gb_typing.proofs.Supported.{nearest_made, for_support_made, for_suppo
 use Rattle.gb_forms.specs.Drawn.{with_value, each_drawn}
 use Rattle.gb_equiv.specs.Drawn.{unless_clash, without_sampling, by_end}
 
-module _ (b : Context) (ls : List TypedName) where
+module _ (ds : Declarations) (scoped : IsTypedScope (declared ds)) (b : Context) (ls : List TypedName) where
   abbrev c : Context
   c = outermost b
 
@@ -114,24 +119,24 @@ module _ (b : Context) (ls : List TypedName) where
             (Every_of_On (IsInSupport value_discrete values) values (On_of_support value_discrete (IsInSupport value_discrete values) values (d.entries (inside s m)) (λ v i. i))))
 
     -- the goal before the sampling implies the goal
-    implied : (p q : Term) → IsForm goal q → first_clash side.Own x.target q ≡ None → Implies c (without_sampling x p q ∷ []) (hoare (body is) p q)
-    implied p q w e g fits j fair s fit h m z =
-        let clear = one_clear goal q w.typed side.Own tt x.target e in
+    implied : (p q : Term) → IsForm goal q → first_clash (exclusions ds) side.Own x.target q ≡ None → ImpliesIn (declared ds) c (without_sampling x p q ∷ []) (hoare (body is) p q)
+    implied p q w e g fits over j fair s fit h m z =
+        let clear = one_clear (exclusions ds) goal q w.typed side.Own tt x.target e in
         subst (Every (λ n. IsTrueUnder g j q (at s n))) (sym (ap (λ is. run g s is m) dx.shape ∙ run_append g s x.before (last_one x) m))
         (Every-bind (λ a. IsTrueUnder g j (each_drawn x q) (at s a)) (λ n. IsTrueUnder g j q (at s n)) (run g s x.before m) (λ a. run g s (last_one x) a) (h.0 m z)
-        (λ a t. after_sampling g fits j fair s fit a q w clear.0 clear.1 (clear.2 g) t))
+        (λ a t. after_sampling g fits j fair s fit a q w clear.0 clear.1 (clear.2 g (kept_off ds scoped g over)) t))
 
   module _ (rs : List TypedName) (is : List Instr) (p q : Term) (w : IsGoalOver c ls rs (hoare (body is) p q)) (Gs : List Goal) where
     abbrev Sound : Type 0
-    Sound = AreSound c (hoare (body is) p q) Gs
+    Sound = AreSoundIn (declared ds) c (hoare (body is) p q) Gs
 
-    with_sampling : (x : Sampling) → last_sampling is ≡ Some x → (u : Option Var) → first_clash side.Own x.target q ≡ u →
+    with_sampling : (x : Sampling) → last_sampling is ≡ Some x → (u : Option Var) → first_clash (exclusions ds) side.Own x.target q ≡ u →
         unless_clash (option_map (λ z. x.target) u) (without_sampling x p q) ≡ given Gs → Sound
     with_sampling x ex (Some z) e r = refused_given (SideCondition x.target) Gs r
     with_sampling x ex None e r =
         let dx = drawn c ls is x w.0 ex in
-        subst (AreSound c (hoare (body is) p q)) (same_given (without_sampling x p q ∷ []) Gs r) (((ls, rs, (dx.rest, w.1, post_typed is x dx q w.2)), tt), implied is x dx p q w.2 e)
+        subst (AreSoundIn (declared ds) c (hoare (body is) p q)) (same_given (without_sampling x p q ∷ []) Gs r) (((ls, rs, (dx.rest, w.1, post_typed is x dx q w.2)), tt), implied is x dx p q w.2 e)
 
-    pub sound : (o : Option Sampling) → last_sampling is ≡ o → by_end p q o ≡ given Gs → Sound
+    pub sound : (o : Option Sampling) → last_sampling is ≡ o → by_end (exclusions ds) p q o ≡ given Gs → Sound
     sound None ex r = refused_given Shape Gs r
-    sound (Some x) ex r = with_sampling x ex (first_clash side.Own x.target q) refl r
+    sound (Some x) ex r = with_sampling x ex (first_clash (exclusions ds) side.Own x.target q) refl r

@@ -48,19 +48,24 @@ use Rattle.gb_typing.proofs.Clashes.{left_of_no_clash}
 use Rattle.gb_typing.proofs.Fitting.{fits_reframed, state_between}
 use Rattle.gb_goal.specs.Answers.Answer.{given}
 use Rattle.gb_goal.specs.Goal.{Goal}
+use Rattle.gb_goal.specs.Scope.{Declarations}
+use Rattle.gb_holds.specs.Declared.{declared}
+use Rattle.gb_mods.specs.Exclusions.{exclusions}
+use Rattle.gb_adversaries.proofs.KeptOff.{kept_off}
 use Rattle.gb_goal.specs.Goal.Code.{body, procedure}
 use Rattle.gb_goal.specs.Goal.Goal.{hoare, phoare, equiv, ambient}
 use Rattle.gb_walk.specs.Clash.{first_clash}
 use Rattle.gb_typing.specs.Forms.{IsAlone, and_form, equal_form}
 use Rattle.gb_typing.specs.Meaning.{run, denominator as run_denominator}
-use Rattle.gb_typing.specs.Rules.{outermost, Implies, IsSoundRule}
+use Rattle.gb_typing.specs.Rules.{outermost, ImpliesIn, IsSoundRuleIn}
+use Rattle.gb_typing.specs.Scopes.{IsTypedScope}
 use Rattle.gb_typing.specs.Samplings.{Sampling, last_sampling}
 use Rattle.gb_typing.specs.Supports.{nearest, in_support, weight}
 use Rattle.gb_typing.specs.Goals.{IsGoalOver}
 use Rattle.gb_typing.proofs.ClashFree.{two_clear}
 use Rattle.gb_typing.proofs.Composed.{composed_made, composed_value, image_value, image_typed, any_own}
 use Rattle.gb_typing.proofs.Forms.{and_typed, and_use}
-use Rattle.gb_typing.proofs.Given.{AreSound, refused_given, same_given}
+use Rattle.gb_typing.proofs.Given.{AreSoundIn, refused_given, same_given}
 use Rattle.gb_typing.proofs.Quantified.{inner_typed, inner_meaning}
 use Rattle.gb_typing.proofs.Runs.{coupled_in_turn}
 use Rattle.gb_typing.proofs.LastSampling.{IsDrawn, drawn, last_one}
@@ -72,7 +77,7 @@ use Rattle.gb_equiv.specs.Drawn.{unless_clash}
 use Rattle.gb_forms.specs.Coupled.{composed, keeps_weights, couples}
 use Rattle.gb_equiv.specs.Rnd.{maps, coupling, with_values, post_before, by_maps, by_ends, rnd_row, IsFunction, AreFunctions, AreBetween, AreTypedFunctions}
 
-module _ (b : Context) (ls rs : List TypedName) where
+module _ (ds : Declarations) (scoped : IsTypedScope (declared ds)) (b : Context) (ls rs : List TypedName) where
   abbrev c : Context
   c = outermost b
 
@@ -258,11 +263,12 @@ module _ (b : Context) (ls rs : List TypedName) where
     post_typed : (q : Term) → IsForm goal q → IsForm goal (post_before x y ms q)
     post_typed q w = and_typed goal (keeps_weights cp) (couples cp (with_values x y ms q)) keeps_typed (couples_typed q w)
 
-    implied : (p q : Term) → IsForm goal q → first_clash side.Left x.target q ≡ None → first_clash side.Right y.target q ≡ None → Implies c (equiv (body x.before) (body y.before) p (post_before x y ms q) ∷ []) (equiv (body is) (body js) p q)
-    implied p q w e k g fits j fair s fit h m n z =
-        let clear = two_clear goal q w.typed x.target y.target e k in
+    implied : (p q : Term) → IsForm goal q → first_clash (exclusions ds) side.Left x.target q ≡ None → first_clash (exclusions ds) side.Right y.target q ≡ None → ImpliesIn (declared ds) c (equiv (body x.before) (body y.before) p (post_before x y ms q) ∷ []) (equiv (body is) (body js) p q)
+    implied p q w e k g fits over j fair s fit h m n z =
+        let clear = two_clear (exclusions ds) goal q w.typed x.target y.target e k in
+        let off = kept_off ds scoped g over in
         coupled_in_turn g s (λ a d. IsTrueUnder g j q (between s a d)) (λ a d. IsTrueUnder g j (post_before x y ms q) (between s a d)) is js x.before (last_one x) y.before (last_one y)
-        dx.shape dy.shape m n (h.0 m n z) (λ a d t. samplings_coupled g fits j fair s fit a d q w clear.0 clear.1 (clear.2 g) (clear.3 g) t)
+        dx.shape dy.shape m n (h.0 m n z) (λ a d t. samplings_coupled g fits j fair s fit a d q w clear.0 clear.1 (clear.2 g off) (clear.3 g off) t)
 
   -- the functions of a typed step
   typed_maps : (x y : Ty) → IsFinite x → IsFinite y → (fs : List Term) (ms : Maps) → maps fs x y ≡ Some ms → AreFunctions goal x y fs → IsFunction goal x y ms.forth × IsFunction goal y x ms.back
@@ -285,15 +291,15 @@ module _ (b : Context) (ls rs : List TypedName) where
 
   module _ (fs : List Term) (is js : List Instr) (p q : Term) (w : IsGoalOver c ls rs (equiv (body is) (body js) p q)) (Gs : List Goal) where
     abbrev Sound : Type 0
-    Sound = AreSound c (equiv (body is) (body js) p q) Gs
+    Sound = AreSoundIn (declared ds) c (equiv (body is) (body js) p q) Gs
 
     with_maps : (x y : Sampling) → last_sampling is ≡ Some x → last_sampling js ≡ Some y → (o : Option Maps) → maps fs x.ty y.ty ≡ o → AreFunctions goal x.ty y.ty fs →
-        (u v : Option Var) → first_clash side.Left x.target q ≡ u → first_clash side.Right y.target q ≡ v → by_maps x y p q o ≡ given Gs → Sound
+        (u v : Option Var) → first_clash (exclusions ds) side.Left x.target q ≡ u → first_clash (exclusions ds) side.Right y.target q ≡ v → by_maps (exclusions ds) x y p q o ≡ given Gs → Sound
     with_maps x y ex ey None em k u v eu ev r = refused_given Shape Gs r
     with_maps x y ex ey (Some ms) em k u v eu ev r =
         checked u v eu ev (subst (λ o. unless_clash o (equiv (body x.before) (body y.before) p (post_before x y ms q)) ≡ given Gs) (λ i. option_or (option_map (λ z. x.target) (eu i)) (option_map (λ z. y.target) (ev i))) r)
       where
-        checked : (u v : Option Var) → first_clash side.Left x.target q ≡ u → first_clash side.Right y.target q ≡ v →
+        checked : (u v : Option Var) → first_clash (exclusions ds) side.Left x.target q ≡ u → first_clash (exclusions ds) side.Right y.target q ≡ v →
             unless_clash (option_or (option_map (λ z. x.target) u) (option_map (λ z. y.target) v)) (equiv (body x.before) (body y.before) p (post_before x y ms q)) ≡ given Gs → Sound
         checked (Some z) v eu ev r = refused_given (SideCondition x.target) Gs r
         checked None (Some z) eu ev r = refused_given (SideCondition y.target) Gs r
@@ -301,35 +307,35 @@ module _ (b : Context) (ls rs : List TypedName) where
             let dx = drawn c ls is x w.1 ex in
             let dy = drawn c rs js y w.2 ey in
             let t = typed_maps x.ty y.ty dx.finite dy.finite fs ms em k in
-            subst (AreSound c (equiv (body is) (body js) p q)) (same_given _ Gs r) (
+            subst (AreSoundIn (declared ds) c (equiv (body is) (body js) p q)) (same_given _ Gs r) (
               ((ls, rs, (tt, dx.rest, dy.rest, w.3, post_typed is js x y dx dy ms t.0 t.1 q w.4)), tt),
               implied is js x y dx dy ms t.0 t.1 p q w.4 eu ev,
             )
 
-    with_ends : (o u : Option Sampling) → last_sampling is ≡ o → last_sampling js ≡ u → AreBetween goal fs (option_zip o u) → by_ends fs p q (option_zip o u) ≡ given Gs → Sound
+    with_ends : (o u : Option Sampling) → last_sampling is ≡ o → last_sampling js ≡ u → AreBetween goal fs (option_zip o u) → by_ends (exclusions ds) fs p q (option_zip o u) ≡ given Gs → Sound
     with_ends None u ex ey k r = refused_given Shape Gs r
     with_ends (Some x) None ex ey k r = refused_given Shape Gs r
-    with_ends (Some x) (Some y) ex ey k r = with_maps x y ex ey (maps fs x.ty y.ty) refl k (first_clash side.Left x.target q) (first_clash side.Right y.target q) refl refl r
+    with_ends (Some x) (Some y) ex ey k r = with_maps x y ex ey (maps fs x.ty y.ty) refl k (first_clash (exclusions ds) side.Left x.target q) (first_clash (exclusions ds) side.Right y.target q) refl refl r
 
-no_procedure : {P : Type 0} (fs : List Term) (a : ProcRef) (p q : Term) (Gs : List Goal) → rnd_row fs (hoare (procedure a) p q) ≡ given Gs → P
-no_procedure [] a p q Gs e = refused_given Shape Gs e
-no_procedure (f ∷ fs) a p q Gs e = refused_given Shape Gs e
+no_procedure : {P : Type 0} (ds : Declarations) (fs : List Term) (a : ProcRef) (p q : Term) (Gs : List Goal) → rnd_row ds fs (hoare (procedure a) p q) ≡ given Gs → P
+no_procedure ds [] a p q Gs e = refused_given Shape Gs e
+no_procedure ds (f ∷ fs) a p q Gs e = refused_given Shape Gs e
 
-module _ (c : Context) (fs : List Term) where
-  pub sound : IsSoundRule c (rnd_row fs) (AreTypedFunctions c fs)
+module _ (ds : Declarations) (scoped : IsTypedScope (declared ds)) (c : Context) (fs : List Term) where
+  pub sound : IsSoundRuleIn (declared ds) c (rnd_row ds fs) (AreTypedFunctions c fs)
   sound outer ls rs (equiv (body is) (body js) p q) w k Gs e =
       let G = equiv (body is) (body js) p q in
-      subst (λ c. AreSound c G Gs) (sym outer)
-      (with_ends c ls rs fs is js p q (subst (λ c. IsGoalOver c ls rs G) outer w) Gs (last_sampling is) (last_sampling js) refl refl (subst (λ c. AreTypedFunctions c fs ls rs G) outer k) e)
+      subst (λ c. AreSoundIn (declared ds) c G Gs) (sym outer)
+      (with_ends ds scoped c ls rs fs is js p q (subst (λ c. IsGoalOver c ls rs G) outer w) Gs (last_sampling is) (last_sampling js) refl refl (subst (λ c. AreTypedFunctions c fs ls rs G) outer k) e)
   sound outer ls rs (hoare (body is) p q) w k Gs e = on_one outer ls rs is p q w Gs fs e
     where
       on_one : c ≡ outermost c → (ls rs : List TypedName) (is : List Instr) (p q : Term) → IsGoalOver c ls rs (hoare (body is) p q) → (Gs : List Goal) → (fs : List Term) →
-          rnd_row fs (hoare (body is) p q) ≡ given Gs → AreSound c (hoare (body is) p q) Gs
+          rnd_row ds fs (hoare (body is) p q) ≡ given Gs → AreSoundIn (declared ds) c (hoare (body is) p q) Gs
       on_one outer ls rs is p q w Gs [] e =
           let G = hoare (body is) p q in
-          subst (λ c. AreSound c G Gs) (sym outer) (drawn_sound c ls rs is p q (subst (λ c. IsGoalOver c ls rs G) outer w) Gs (last_sampling is) refl e)
+          subst (λ c. AreSoundIn (declared ds) c G Gs) (sym outer) (drawn_sound ds scoped c ls rs is p q (subst (λ c. IsGoalOver c ls rs G) outer w) Gs (last_sampling is) refl e)
       on_one outer ls rs is p q w Gs (f ∷ fs) e = refused_given Shape Gs e
-  sound outer ls rs (hoare (procedure a) p q) w k Gs e = no_procedure fs a p q Gs e
+  sound outer ls rs (hoare (procedure a) p q) w k Gs e = no_procedure ds fs a p q Gs e
   sound outer ls rs (phoare a o p q r) w k Gs e = refused_given Shape Gs e
   sound outer ls rs (equiv (procedure a) d p q) w k Gs e = refused_given Shape Gs e
   sound outer ls rs (equiv (body is) (procedure d) p q) w k Gs e = refused_given Shape Gs e

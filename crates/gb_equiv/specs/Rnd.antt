@@ -29,6 +29,9 @@ use Rattle.gb_equiv.specs.Drawn.{clashing, unless_clash, by_end}
 use Rattle.gb_forms.specs.Coupled.{coupled_post}
 use Rattle.gb_forms.specs.declared.coupled.Maps.{Maps}
 use Rattle.gb_forms.specs.declared.coupled.Coupled.{Coupled}
+use Rattle.gb_walk.specs.Clash.{Exclusions}
+use Rattle.gb_mods.specs.Exclusions.{exclusions}
+use Rattle.gb_goal.specs.Scope.{Declarations}
 
 -- the functions forth and back: none is the identity, which needs one type, and one is its own inverse
 abbrev pub maps : List Term → Ty → Ty → Option Maps
@@ -54,22 +57,22 @@ abbrev pub without_samplings : Sampling → Sampling → Maps → Term → Term 
 without_samplings x y ms p q = equiv (body x.before) (body y.before) p (post_before x y ms q)
 
 -- The target that the postcondition reads beside a variable that clashes with it: the left one, or else the right one.
-abbrev pub clash_of : Sampling → Sampling → Term → Option Var
-clash_of x y q = option_or (clashing Left x.target q) (clashing Right y.target q)
+abbrev pub clash_of : Exclusions → Sampling → Sampling → Term → Option Var
+clash_of es x y q = option_or (clashing es Left x.target q) (clashing es Right y.target q)
 
-abbrev pub by_maps : Sampling → Sampling → Term → Term → Option Maps → Answer (List Goal)
-by_maps x y p q (Some ms) = unless_clash (clash_of x y q) (without_samplings x y ms p q)
-by_maps x y p q None = refusing Shape
+abbrev pub by_maps : Exclusions → Sampling → Sampling → Term → Term → Option Maps → Answer (List Goal)
+by_maps es x y p q (Some ms) = unless_clash (clash_of es x y q) (without_samplings x y ms p q)
+by_maps es x y p q None = refusing Shape
 
-abbrev pub by_ends : List Term → Term → Term → Option (Sampling × Sampling) → Answer (List Goal)
-by_ends fs p q (Some (x, y)) = by_maps x y p q (maps fs x.ty y.ty)
-by_ends fs p q None = refusing Shape
+abbrev pub by_ends : Exclusions → List Term → Term → Term → Option (Sampling × Sampling) → Answer (List Goal)
+by_ends es fs p q (Some (x, y)) = by_maps es x y p q (maps fs x.ty y.ty)
+by_ends es fs p q None = refusing Shape
 
 -- the goal without the samplings that end its bodies; on one body there is no function
-abbrev pub rnd_row : List Term → Row
-rnd_row fs (equiv (body is) (body js) p q) = by_ends fs p q (option_zip (last_sampling is) (last_sampling js))
-rnd_row [] (hoare (body is) p q) = by_end p q (last_sampling is)
-rnd_row fs G = refusing Shape
+abbrev pub rnd_row : Declarations → List Term → Row
+rnd_row ds fs (equiv (body is) (body js) p q) = by_ends (exclusions ds) fs p q (option_zip (last_sampling is) (last_sampling js))
+rnd_row ds [] (hoare (body is) p q) = by_end (exclusions ds) p q (last_sampling is)
+rnd_row ds fs G = refusing Shape
 
 -- A function from values of a type to values of another: a plain term under a binder of its argument, which may read both memories.
 pub record IsFunction (c : Context) (a b : Ty) (f : Term) : Type 0 where

@@ -19,7 +19,7 @@ use gb_goal::sequent::{Sequent, Sequents};
 use gb_terms::op::Side;
 use gb_terms::term::{Form, Instr};
 use gb_typing::samplings::{Last, last_sampling, rest_of};
-use gb_walk::clash::first_clash;
+use gb_walk::clash::{Excluded, first_clash};
 use sqlite_items::Items;
 use std::alloc::{AllocError, Global};
 
@@ -75,17 +75,18 @@ fn without_sampling(
 pub fn drawn_rule(
     alloc: Global,
     goal: &Sequent,
+    exclusions: &[Excluded],
     body: &[Instr],
     pre: &Form,
     post: &Form,
     place: Place,
 ) -> Result<Sequents, Refused>
-    ensures { Answers (placed_at place (each_concluding goal.now (by_end pre.now post.now (last_sampling body.now)))) result }
+    ensures { Answers (placed_at place (each_concluding goal.now (by_end exclusions.now pre.now post.now (last_sampling body.now)))) result }
 {
     let Some(sampling) = last_sampling(body) else {
         return Err(no_such_shape(place));
     };
-    if first_clash(&Side::Own, sampling.target, post).is_some() {
+    if first_clash(exclusions, &Side::Own, sampling.target, post).is_some() {
         return Err(clashing(alloc, sampling.target, place));
     }
     let conclusion = without_sampling(alloc, &sampling, pre, post)?;

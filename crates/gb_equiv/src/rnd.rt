@@ -21,13 +21,15 @@ use gb_core::var::Var;
 use gb_forms::coupled::{Coupled, Maps, Sampled, coupled_post};
 use gb_forms::drawn::target_change;
 use gb_goal::goal::{Code, Goal, equiv, goal_of};
+use gb_goal::scope::Scope;
 use gb_goal::sequent::{Sequent, Sequents};
+use gb_mods::exclusions::exclusions;
 use gb_terms::op::Side;
 use gb_terms::term::{Form, Instr, Term};
 use gb_typing::samplings::{Last, last_sampling, rest_of};
 use gb_typing::supports::nearest;
 use gb_walk::change::Change;
-use gb_walk::clash::first_clash;
+use gb_walk::clash::{Excluded, first_clash};
 use gb_walk::walk::changed;
 use std::alloc::{AllocError, Global};
 
@@ -144,12 +146,17 @@ fn without_samplings(
 }
 
 /// The target that the postcondition reads beside a variable that clashes with it: the left one, or else the right one.
-fn clash_of<'a>(left: &Last<'a>, right: &Last<'a>, post: &Form) -> Option<&'a Var>
-    ensures { option_copied result ≡ clash_of (sampling_of left.now) (sampling_of right.now) post.now }
+fn clash_of<'a>(
+    exclusions: &[Excluded],
+    left: &Last<'a>,
+    right: &Last<'a>,
+    post: &Form,
+) -> Option<&'a Var>
+    ensures { option_copied result ≡ clash_of exclusions.now (sampling_of left.now) (sampling_of right.now) post.now }
 {
-    match first_clash(&Side::Left, left.target, post) {
+    match first_clash(exclusions, &Side::Left, left.target, post) {
         Some(_) => Some(left.target),
-        None => match first_clash(&Side::Right, right.target, post) {
+        None => match first_clash(exclusions, &Side::Right, right.target, post) {
             Some(_) => Some(right.target),
             None => None,
         },
@@ -161,11 +168,12 @@ fn clash_of<'a>(left: &Last<'a>, right: &Last<'a>, post: &Form) -> Option<&'a Va
 fn coupled_rule(
     alloc: Global,
     goal: &Sequent,
+    exclusions: &[Excluded],
     given: &[Term],
     of: Bodies<'_>,
     place: Place,
 ) -> Result<Sequents, Refused>
-    ensures { Answers (placed_at place (each_concluding goal.now (by_ends given.now of.entry.pre.now of.entry.post.now (option_zip (last_sampling of.entry.left.now) (last_sampling of.entry.right.now))))) result }
+    ensures { Answers (placed_at place (each_concluding goal.now (by_ends exclusions.now given.now of.entry.pre.now of.entry.post.now (option_zip (last_sampling of.entry.left.now) (last_sampling of.entry.right.now))))) result }
 {
     let (Some(left), Some(right)) = (last_sampling(of.left), last_sampling(of.right)) else {
         return Err(no_such_shape(place));
@@ -173,7 +181,7 @@ fn coupled_rule(
     let Some(maps) = maps(alloc, given, left.ty, right.ty)? else {
         return Err(no_such_shape(place));
     };
-    if let Some(var) = clash_of(&left, &right, of.post) {
+    if let Some(var) = clash_of(exclusions, &left, &right, of.post) {
         return Err(clashing(alloc, var, place));
     }
     let conclusion = without_samplings(alloc, &left, &right, maps, of.pre, of.post)?;
@@ -188,11 +196,13 @@ fn coupled_rule(
 pub fn rnd_rule(
     alloc: Global,
     goal: &Sequent,
+    scope: &Scope,
     given: &[Term],
     place: Place,
 ) -> Result<Sequents, Refused>
-    ensures { Answers (stepped (rnd_row given.now) place goal.now) result }
+    ensures { Answers (stepped (rnd_row scope.now given.now) place goal.now) result }
 {
+    let excluded = exclusions(alloc, scope)?;
     match (goal_of(&goal.conclusion), given) {
         (Goal::Equiv(Code::Body(left), Code::Body(right), pre, post), _) => {
             let of = Bodies {
@@ -201,10 +211,10 @@ pub fn rnd_rule(
                 pre,
                 post,
             };
-            coupled_rule(alloc, goal, given, of, place)
+            coupled_rule(alloc, goal, excluded.as_slice(), given, of, place)
         }
         (Goal::Hoare(Code::Body(body), pre, post), []) => {
-            drawn_rule(alloc, goal, body, pre, post, place)
+            drawn_rule(alloc, goal, excluded.as_slice(), body, pre, post, place)
         }
         _ => Err(no_such_shape(place)),
     }

@@ -13,6 +13,6 @@ pub of_is : (ds : Declarations) → operators_of ds ≡ operators_at ds (length 
 unfolding operators_of
 of_is ds = refl
 
-pub environment_is : (e : Env) → environment e ≡ record { operators = operators_in e.script; reads = e.reads.now }
+pub environment_is : (e : Env) → environment e ≡ record { operators = operators_in e.script; reads = e.reads.now; exclusions = e.exclusions.now }
 unfolding environment
 environment_is e = refl

@@ -15,6 +15,7 @@ use Rattle.gb_meaning.specs.State.{State, Binding, closed}
 use Rattle.gb_meaning.specs.State.Binding.{value}
 use Rattle.gb_meaning.specs.Terms.{Part, parts, quiet, val}
 use Rattle.gb_laws.specs.Plain.{IsPlain, AllPlain, HeadIsPlain}
+use Rattle.gb_reads.proofs.Memories.{all_apart}
 use Rattle.gb_eval.specs.declared.env.Bound.{Bound}
 use Rattle.gb_eval.specs.Script.{body_named, made_of}
 use Rattle.gb_eval.specs.Findings.{Operators, no_operator}
@@ -73,7 +74,7 @@ module _ (g : Setting) where
 
   module _ (s : State) (ops : Operators) where
     abbrev inside : Environment
-    inside = record { operators = ops; reads = [] }
+    inside = record { operators = ops; reads = []; exclusions = [] }
 
     plain_at : (h : Head) (xs : List ev.Part) (ty : Ty) → HeadIsPlain h → Serves g s inside h xs ty
     plain_at (head.Read (Logical i)) xs ty e = tt
@@ -97,7 +98,7 @@ module _ (g : Setting) where
 module _ (g : Setting) (ds : Declarations) (bodies : AreBodies g ds) where
   module _ (ops : Operators) (known : AreOperators g ops) where
     abbrev here : Environment
-    here = record { operators = ops; reads = [] }
+    here = record { operators = ops; reads = []; exclusions = [] }
 
     body_sound : (n : Name) (t : Term) → IsBody g n t → IsOperator (function_of ops t) (g.operator n) (g.denominator n)
     body_sound n t w = record {
@@ -105,8 +106,8 @@ module _ (g : Setting) (ds : Declarations) (bodies : AreBodies g ds) where
           let s : State = record closed { bound = reverse (map value ms) } in
           subst (λ m. Means (eval here t (reverse bs)) m (g.denominator n)) (sym (w.result ms))
           (subst (Means (eval here t (reverse bs)) (val g quiet t s)) (sym w.total)
-          (served_sound g quiet s here t (reverse bs) known (plain_served g s ops t w.plain) (plain_judged g t w.plain) (all_bind g.types (reverse (map value ms)) (reverse bs) (reversed g.types bs ms k))));
-      total = subst (IsDenominator (total_of ops t)) (sym w.total) (total_sound g closed here t known (plain_served g closed ops t w.plain) (plain_judged g t w.plain));
+          (served_sound g quiet s here t (reverse bs) known (all_apart g.types) (plain_served g s ops t w.plain) (plain_judged g t w.plain) (all_bind g.types (reverse (map value ms)) (reverse bs) (reversed g.types bs ms k))));
+      total = subst (IsDenominator (total_of ops t)) (sym w.total) (total_sound g closed here t known (all_apart g.types) (plain_served g closed ops t w.plain) (plain_judged g t w.plain));
     }
 
     opened_sound : (n : Name) (o : Option Term) → body_named ds n ≡ o → IsOperator (made_of no_operator (function_of ops) o) (g.operator n) (g.denominator n)

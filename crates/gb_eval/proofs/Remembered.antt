@@ -17,8 +17,9 @@ use Rattle.gb_types.proofs.Steps.{factors}
 use Rattle.gb_meaning.specs.Memory.{Memory}
 use Rattle.gb_meaning.specs.Values.{Types}
 use Rattle.gb_meaning.proofs.Types.{values_finite}
+use Rattle.gb_walk.specs.Clash.{Exclusions}
 use Rattle.gb_reads.specs.Reads.{Vars, are_free}
-use Rattle.gb_reads.specs.Memories.{AreOf, AreReadable, HaveValues, read_all}
+use Rattle.gb_reads.specs.Memories.{AreKeptApart, AreOf, AreReadable, HaveValues, read_all}
 use Rattle.gb_reads.proofs.Memories.{of_types, exist}
 use Rattle.gb_eval.specs.Findings.{Comes, ◌>>=◌, over}
 use Rattle.gb_eval.specs.Findings.Comes.{found, unknown, overflow}
@@ -101,7 +102,7 @@ module _ (t : Types) where
 
   -- the places of memories
 
-  module _ (xs : Vars) (free : are_free xs ≡ true) (readable : AreReadable t xs) (n : ℕ) (c : card_of (memories_of xs) ≡ Exact n) (some : 0 < n) where
+  module _ (es : Exclusions) (apart : AreKeptApart es t) (xs : Vars) (free : are_free es xs ≡ true) (readable : AreReadable t xs) (n : ℕ) (c : card_of (memories_of xs) ≡ Exact n) (some : 0 < n) where
     abbrev tys : List Ty
     tys = map (λ x. x.ty) xs
 
@@ -134,5 +135,5 @@ module _ (t : Types) where
         let v = value_at (memories_of xs) i in
         let h = (lawful (memories_of xs)).has_at i (subst (λ k. i < k) size_is b) in
         let q = sym (ap (λ (z : Numbering). z.has v) (numbering-Tuple tys)) ∙ h in
-        let some_memory = exist t xs (parts_of v) free readable (values_of_tuple xs (parts_of v) finite (and_parts _ (is_tuple (map numbering tys) (parts_of v)) q).1) in
+        let some_memory = exist es t apart xs (parts_of v) free readable (values_of_tuple xs (parts_of v) finite (and_parts _ (is_tuple (map numbering tys) (parts_of v)) q).1) in
         (some_memory.0, sym some_memory.1)

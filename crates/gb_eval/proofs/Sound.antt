@@ -13,7 +13,7 @@ use Rattle.gb_types.specs.Numbering.{parts_of}
 use Rattle.gb_types.specs.Types.{value_at, card_of}
 use Rattle.gb_reads.specs.Reads.{are_free}
 use Rattle.gb_reads.specs.Held as held
-use Rattle.gb_reads.specs.Memories.{AreReadable, IsHeldBy, read_all}
+use Rattle.gb_reads.specs.Memories.{AreKeptApart, AreReadable, IsHeldBy, read_all}
 use Rattle.gb_reads.proofs.Memories.{all_held, known_value}
 use Rattle.gb_terms.specs.declared.op.Op.{Op}
 use Rattle.gb_terms.specs.declared.op.Op.TheVariants as op
@@ -120,7 +120,7 @@ argument_collected (found a) m rest done ms ns k w f =
 argument_collected unknown m rest done ms ns k w f = tt
 argument_collected (overflow o) m rest done ms ns k w f = tt
 
-module _ (g : Setting) (j : Speaks) (s : State) (env : Environment) (ops : AreOperators g env.operators) where
+module _ (g : Setting) (j : Speaks) (s : State) (env : Environment) (ops : AreOperators g env.operators) (apart : AreKeptApart env.exclusions g.types) where
   -- the state inside of binders
   abbrev inner : List Binding → State
   inner bs = record s { bound = bs }
@@ -231,15 +231,15 @@ module _ (g : Setting) (j : Speaks) (s : State) (env : Environment) (ops : AreOp
     said : (mem : Memory) (i : ℕ) (d : Bool) → parts_of (value_at (ev.memories_of x.reads) i) ≡ read_all g.types mem x.reads → place i ≡ found d → here mem ≡ d
     said mem i d e f = subst (λ c. IsTruth c (here mem)) f (place_meant mem i e)
 
-    module _ (readable : AreReadable g.types x.reads) (free : are_free x.reads ≡ true) (n : ℕ) (c : card_of (ev.memories_of x.reads) ≡ Exact n) (some : 0 < n) where
+    module _ (readable : AreReadable g.types x.reads) (free : are_free env.exclusions x.reads ≡ true) (n : ℕ) (c : card_of (ev.memories_of x.reads) ≡ Exact n) (some : 0 < n) where
       -- where each place says so, each memory does; and where one does, some memory
       each_memory : (d : Bool) → over (ev.next_truth d place) (not d) n ≡ found (not d) → (mem : Memory) → here mem ≡ not d
-      each_memory d e mem = let q = place_of_memory g.types x.reads free readable n c some mem in said mem q.0 (not d) q.2 (each_says d place n e q.0 q.1)
+      each_memory d e mem = let q = place_of_memory g.types env.exclusions apart x.reads free readable n c some mem in said mem q.0 (not d) q.2 (each_says d place n e q.0 q.1)
 
       one_memory : (d : Bool) → over (ev.next_truth d place) (not d) n ≡ found d → (mem : Memory) × (here mem ≡ d)
       one_memory d e =
           let q = one_says d place n e in
-          let mem = memory_of_place g.types x.reads free readable n c some q.0 q.1 in
+          let mem = memory_of_place g.types env.exclusions apart x.reads free readable n c some q.0 q.1 in
           (mem.0, said mem.0 q.0 d mem.1 q.2)
 
       -- what is said of all memories, and of some memory
@@ -265,26 +265,26 @@ module _ (g : Setting) (j : Speaks) (s : State) (env : Environment) (ops : AreOp
           none true q = let one = w.0 q in absurd (false≢true (sym (each_memory true e one.0) ∙ one.1))
 
     -- a quantifier, where it is known
-    module _ (d z : Bool) (w : are_free x.reads ≡ true → (n : ℕ) → card_of (ev.memories_of x.reads) ≡ Exact n → 0 < n → IsTruth (over (ev.next_truth d place) (not d) n) z) where
-      by_count : are_free x.reads ≡ true → (n : ℕ) → card_of (ev.memories_of x.reads) ≡ Exact n → (y : Bool) → nat_lt 0 n ≡ y →
+    module _ (d z : Bool) (w : are_free env.exclusions x.reads ≡ true → (n : ℕ) → card_of (ev.memories_of x.reads) ≡ Exact n → 0 < n → IsTruth (over (ev.next_truth d place) (not d) n) z) where
+      by_count : are_free env.exclusions x.reads ≡ true → (n : ℕ) → card_of (ev.memories_of x.reads) ≡ Exact n → (y : Bool) → nat_lt 0 n ≡ y →
           Means ((if y then found n else unknown) >>= λ k. over (ev.next_truth d place) (not d) k >>= λ a. found (of_truth a)) (m.of_truth z) 1
       by_count f n c true l = answer_meant _ _ 1 (w f n c (ltb-true 0 n l))
       by_count f n c false l = tt
 
-      by_card : are_free x.reads ≡ true → (k : Card) → card_of (ev.memories_of x.reads) ≡ k →
+      by_card : are_free env.exclusions x.reads ≡ true → (k : Card) → card_of (ev.memories_of x.reads) ≡ k →
           Means (ev.number_of_memories k >>= λ k. over (ev.next_truth d place) (not d) k >>= λ a. found (of_truth a)) (m.of_truth z) 1
       by_card f (Exact n) c = by_count f n c (nat_lt 0 n) refl
       by_card f Above c = tt
 
-      by_free : (y : Bool) → are_free x.reads ≡ y → Means (if y then ev.in_memories d x.reads x vs else unknown) (m.of_truth z) 1
+      by_free : (y : Bool) → are_free env.exclusions x.reads ≡ y → Means (if y then ev.in_memories d x.reads x vs else unknown) (m.of_truth z) 1
       by_free true f = by_card f (card_of (ev.memories_of x.reads)) refl
       by_free false f = tt
 
-      remembered_meant : Means (ev.remembered d (x ∷ []) vs) (m.of_truth z) 1
-      remembered_meant = by_free (are_free x.reads) refl
+      remembered_meant : Means (ev.remembered env.exclusions d (x ∷ []) vs) (m.of_truth z) 1
+      remembered_meant = by_free (are_free env.exclusions x.reads) refl
 
   all_memories_meant : (t : Term) (xs : List Part) (ps : List mt.Part) (ty : Ty) → AreMeant xs ps → Serves g s env head.AllMemory xs ty → given.is_judged_at g j t head.AllMemory ps → (bs : List Binding) (vs : List Bound) → Binds g.types bs vs →
-      Means (ev.remembered false xs vs) (m.of_truth (j.judged t (inner bs))) 1
+      Means (ev.remembered env.exclusions false xs vs) (m.of_truth (j.judged t (inner bs))) 1
   all_memories_meant t [] ps ty h k w bs vs b = tt
   all_memories_meant t (x ∷ []) (p ∷ []) ty h k w bs vs b = remembered_meant x p h.0 bs vs b false (j.judged t (inner bs)) (λ f n c l. of_all x p h.0 bs vs b k f n c l (j.judged t (inner bs)) (w (inner bs)) _ refl)
   all_memories_meant t (x ∷ []) [] ty h k w bs vs b = absurd h
@@ -292,7 +292,7 @@ module _ (g : Setting) (j : Speaks) (s : State) (env : Environment) (ops : AreOp
   all_memories_meant t (x ∷ y ∷ xs) ps ty h k w bs vs b = tt
 
   some_memory_meant : (t : Term) (xs : List Part) (ps : List mt.Part) (ty : Ty) → AreMeant xs ps → Serves g s env head.SomeMemory xs ty → given.is_judged_at g j t head.SomeMemory ps → (bs : List Binding) (vs : List Bound) → Binds g.types bs vs →
-      Means (ev.remembered true xs vs) (m.of_truth (j.judged t (inner bs))) 1
+      Means (ev.remembered env.exclusions true xs vs) (m.of_truth (j.judged t (inner bs))) 1
   some_memory_meant t [] ps ty h k w bs vs b = tt
   some_memory_meant t (x ∷ []) (p ∷ []) ty h k w bs vs b = remembered_meant x p h.0 bs vs b true (j.judged t (inner bs)) (λ f n c l. of_some x p h.0 bs vs b k f n c l (j.judged t (inner bs)) (w (inner bs)) _ refl)
   some_memory_meant t (x ∷ []) [] ty h k w bs vs b = absurd h
@@ -650,17 +650,17 @@ module _ (g : Setting) (j : Speaks) (s : State) (env : Environment) (ops : AreOp
     row_meant end_of-Term w u = tt
     row_meant (more_of-Term t r) w u = (term_meant t w.0 u.0, row_meant r w.1 u.1)
 
-pub served_sound : (g : Setting) (j : Speaks) (s : State) (env : Environment) (t : Term) (bound : List Bound) → AreOperators g env.operators → IsServed g s env t → given.AreJudged g j t → Binds g.types s.bound bound → Means (eval env t bound) (val g j t s) (denominator g t)
-served_sound g j s env t bound o w u b = (term_meant g j s env o t w u).means s.bound bound b
+pub served_sound : (g : Setting) (j : Speaks) (s : State) (env : Environment) (t : Term) (bound : List Bound) → AreOperators g env.operators → AreKeptApart env.exclusions g.types → IsServed g s env t → given.AreJudged g j t → Binds g.types s.bound bound → Means (eval env t bound) (val g j t s) (denominator g t)
+served_sound g j s env t bound o k w u b = (term_meant g j s env o k t w u).means s.bound bound b
 
-pub answer_sound : (g : Setting) (j : Speaks) (s : State) (env : Environment) (t : Term) (bound : List Bound) → AreOperators g env.operators → AreGiven g s env.reads t → given.AreJudged g j t → Binds g.types s.bound bound → Means (eval env t bound) (val g j t s) (denominator g t)
-answer_sound g j s env t bound o w u b = served_sound g j s env t bound o (served_given g s env t w) u b
+pub answer_sound : (g : Setting) (j : Speaks) (s : State) (env : Environment) (t : Term) (bound : List Bound) → AreOperators g env.operators → AreKeptApart env.exclusions g.types → AreGiven g s env.reads t → given.AreJudged g j t → Binds g.types s.bound bound → Means (eval env t bound) (val g j t s) (denominator g t)
+answer_sound g j s env t bound o k w u b = served_sound g j s env t bound o k (served_given g s env t w) u b
 
-pub truth_sound : (g : Setting) (j : Speaks) (s : State) (env : Environment) (t : Term) (b : Bool) → AreOperators g env.operators → AreGiven g s env.reads t → given.AreJudged g j t → ev.truth_at env t [] ≡ found b → m.truth (val g j t s) ≡ b
-truth_sound g j s env t b o w u h = subst (λ c. IsTruth c (m.truth (val g j t s))) h (comes_truth (eval env t []) (val g j t s) (denominator g t) (answer_sound g j s env t [] o w u tt))
+pub truth_sound : (g : Setting) (j : Speaks) (s : State) (env : Environment) (t : Term) (b : Bool) → AreOperators g env.operators → AreKeptApart env.exclusions g.types → AreGiven g s env.reads t → given.AreJudged g j t → ev.truth_at env t [] ≡ found b → m.truth (val g j t s) ≡ b
+truth_sound g j s env t b o k w u h = subst (λ c. IsTruth c (m.truth (val g j t s))) h (comes_truth (eval env t []) (val g j t s) (denominator g t) (answer_sound g j s env t [] o k w u tt))
 
-pub total_sound : (g : Setting) (s : State) (env : Environment) (t : Term) → AreOperators g env.operators → IsServed g s env t → given.AreJudged g mt.quiet t → given.IsDenominator (total_of env.operators t) (denominator g t)
-total_sound g s env t o w u = step (total_of env.operators t) (term_meant g mt.quiet s env o t w u).total
+pub total_sound : (g : Setting) (s : State) (env : Environment) (t : Term) → AreOperators g env.operators → AreKeptApart env.exclusions g.types → IsServed g s env t → given.AreJudged g mt.quiet t → given.IsDenominator (total_of env.operators t) (denominator g t)
+total_sound g s env t o k w u = step (total_of env.operators t) (term_meant g mt.quiet s env o k t w u).total
   where
     step : (c : Comes ℕ) → Finds (IsTotal (denominator g t)) c → given.IsDenominator c (denominator g t)
     step (found n) h = (h.is, h.above)

@@ -27,6 +27,7 @@ use Rattle.gb_meaning.specs.Operators.{is_distribution}
 use Rattle.gb_dist.specs.Places.{outcomes}
 use Rattle.gb_dist.specs.Rows.{scaling_steps}
 use Rattle.gb_goal.specs.Scope.{Declarations}
+use Rattle.gb_walk.specs.Clash.{Exclusions}
 use Rattle.gb_reads.specs.Held as held
 use Rattle.gb_reads.specs.Reads.{Vars, are_free, reads_of}
 use Rattle.gb_labels.specs.Labelled.{labelled}
@@ -167,9 +168,9 @@ in_memories deciding xs x bound =
 
 -- The truth of a quantifier over memories, by the values that they give what is read of them. It is known where memories give these any
 -- values of their types, independently.
-abbrev pub remembered : Bool → List Part → List Bound → Comes Finding
-remembered deciding (x ∷ []) bound = if are_free x.reads then in_memories deciding x.reads x bound else unknown
-remembered deciding _ bound = unknown
+abbrev pub remembered : Exclusions → Bool → List Part → List Bound → Comes Finding
+remembered es deciding (x ∷ []) bound = if are_free es x.reads then in_memories deciding x.reads x bound else unknown
+remembered es deciding _ bound = unknown
 
 -- the truth of an event at each outcome of a table, in order
 abbrev pub event : Part → WeightedList Value → List Bound → Comes (List Bool)
@@ -219,10 +220,11 @@ summed q (x ∷ []) bound =
     else unknown
 summed q _ bound = unknown
 
--- The operators of the script, and the values of reads.
+-- The operators of the script, the values of reads, and what restrictions of abstract modules exclude.
 pub record Environment : Type 0 where
   pub operators : Operators
   pub reads : List ReadValue
+  pub exclusions : Exclusions
 
 -- the arguments of an operator of the script
 abbrev pub arguments : List Part → List Bound → Comes (List Bound)
@@ -251,8 +253,8 @@ at_head env (head.Builtin o) ty xs bound = operated o ty xs bound
 at_head env (head.User n) ty xs bound = called (env.operators n) ty xs bound
 at_head env (head.All u) ty xs bound = quantified false u xs bound
 at_head env (head.Some u) ty xs bound = quantified true u xs bound
-at_head env head.AllMemory ty xs bound = remembered false xs bound
-at_head env head.SomeMemory ty xs bound = remembered true xs bound
+at_head env head.AllMemory ty xs bound = remembered env.exclusions false xs bound
+at_head env head.SomeMemory ty xs bound = remembered env.exclusions true xs bound
 at_head env head.Mu ty xs bound = measured xs bound
 at_head env head.Restrict ty xs bound = restricted xs bound
 at_head env head.Map ty xs bound = mapped xs bound
@@ -282,7 +284,7 @@ truth_at env t bound = eval env t bound >>= truth_in
 -- An operator comes to what its body does, in which its parameters are bound, the last one innermost.
 abbrev pub function_of : Operators → Term → Function
 function_of ops body = record {
-  comes = λ vs. eval (record { operators = ops; reads = [] }) body (reverse vs);
+  comes = λ vs. eval (record { operators = ops; reads = []; exclusions = [] }) body (reverse vs);
   total = total_of ops body;
 }
 
@@ -300,7 +302,7 @@ unfoldable pub operators_in : Script → Operators
 operators_in s = operators_at s.scope.now s.depth
 
 unfoldable pub environment : Env → Environment
-environment e = record { operators = operators_in e.script; reads = e.reads.now }
+environment e = record { operators = operators_in e.script; reads = e.reads.now; exclusions = e.exclusions.now }
 
 -- what a closed term comes to there, with labels in place of the values of modules' globals
 abbrev pub comes_to : Env → Term → Comes Finding

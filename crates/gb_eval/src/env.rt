@@ -16,6 +16,7 @@ use gb_num::Frac;
 use gb_reads::held::{HeldValues, value_of as held_value};
 use gb_terms::op::{Read, Side};
 use gb_terms::same::same_read;
+use gb_walk::clash::Excluded;
 use sqlite_items::Items;
 
 /// A read, and its value.
@@ -27,12 +28,13 @@ pub struct ReadValue {
 
 pub type ReadValues = Items<ReadValue>;
 
-/// The operators of the script, the values of reads, and for each abstract module how many labels stand for the values of all its
-/// globals.
+/// The operators of the script, the values of reads, what restrictions of abstract modules exclude, and for each abstract module how
+/// many labels stand for the values of all its globals.
 #[derive(Clone, Copy)]
 pub struct Env<'a> {
     pub script: Script<'a>,
     pub reads: &'a [ReadValue],
+    pub exclusions: &'a [Excluded],
     pub labels: &'a [Label],
 }
 

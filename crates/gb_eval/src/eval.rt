@@ -4,6 +4,7 @@ ghost use Rattle.std.specs.Prelude.{◌≡◌, ◌<◌, ◌^◌, reverse, map, [
 ghost use Rattle.gb_types.specs.Types.{IsPlaceBelow, card_of, value_at};
 ghost use Rattle.gb_types.specs.Numbering.{parts_of};
 ghost use Rattle.gb_reads.specs.Held.{with_values};
+ghost use Rattle.gb_reads.specs.Reads.{are_free};
 ghost use Rattle.gb_dist.specs.Rows.{entries};
 ghost use Rattle.gb_core.specs.declared.value.Value.TheVariants.{Num};
 ghost use Rattle.gb_eval.specs.declared.env.Bound.TheVariants as to;
@@ -189,6 +190,7 @@ fn applied(alloc: Global, name: &Name, env: &Env<'_>, args: &mut Bounds) -> Resu
             let inner = Env {
                 script: inside(&env.script),
                 reads: &[],
+                exclusions: &[],
                 labels: &[],
             };
             eval(alloc, body, &inner, args)
@@ -474,6 +476,14 @@ fn in_memories(
     Ok(of_truth(!deciding))
 }
 
+/// Whether no two of these clash, so that memories give them all values of their types, independently.
+#[tactic(auto, unfolding(crate::specs::Eval::environment))]
+fn are_free_in(variables: &[TypedVar], env: &Env<'_>) -> bool
+    ensures { result ≡ are_free (environment env.now).exclusions variables.now }
+{
+    are_free(env.exclusions, variables)
+}
+
 /// The truth of a quantifier over memories, by the values that they give what its body reads of them.
 #[cycle(eval)]
 fn memories(
@@ -483,14 +493,14 @@ fn memories(
     env: &Env<'_>,
     bound: &mut Bounds,
 ) -> Result<Answer, Stop>
-    ensures found { Gives shown (remembered deciding (map (part_of (environment env.now)) args.now) (reverse bound.old)) result }
+    ensures found { Gives shown (remembered (environment env.now).exclusions deciding (map (part_of (environment env.now)) args.now) (reverse bound.old)) result }
     ensures bound { OnOk result (bound.new ≡ bound.old) }
 {
     let [body] = args else {
         return Err(Stop::Unknown);
     };
     let variables = reads(alloc, body)?;
-    if !are_free(variables.as_slice()) {
+    if !are_free_in(variables.as_slice(), env) {
         return Err(Stop::Unknown);
     }
     in_memories(alloc, body, variables.as_slice(), deciding, env, bound)

@@ -20,7 +20,7 @@ turn_goal Left v is p = equiv (body is) (body []) p v
 turn_goal Right v is p = equiv (body []) (body is) p v
 turn_goal r v is p = hoare (body is) p v
 
--- The variables that statements write, in order, and through all procedures that they call. They aren't known where one of these isn't
--- declared by its name.
+-- The variables that statements write, in order, and through all procedures that they call. They aren't known where it isn't known what
+-- one of these stands for.
 unfoldable pub written : Declarations → List Instr → Option (List Var)
 written ds is = option_map (λ xs. joined (targets is) xs) (written_if ds (all_reached ds (calls is)))

@@ -57,7 +57,8 @@ pub fn turn_goal(
     }
 }
 
-/// The variables that statements write, in order, and through all procedures that they call. None where one of these isn't declared by its name.
+/// The variables that statements write, in order, and through all procedures that they call. None where it isn't known what one of
+/// these stands for.
 #[tactic(auto, unfolding(crate::specs::Loops::written))]
 pub fn written(alloc: Global, list: &[Instr], scope: &Scope) -> Result<Option<Vars>, AllocError>
     ensures { IfOk result (λ made. made ≡ written scope.now list.now) }

@@ -2,7 +2,6 @@
 use Rattle.std.specs.Prelude.{ℕ, zero, suc, length, Bool, true, false, not, ◌||◌, if◌then◌else◌, List, [], ◌∷◌, ◌++◌, Option, Some, None, bytes_eq}
 use Rattle.std.specs.List.{list_any}
 use Rattle.gb_core.specs.declared.var.Var.{Var}
-use Rattle.gb_terms.specs.declared.decl.Proc.{Proc}
 use Rattle.gb_terms.specs.declared.module.ProcRef.{ProcRef}
 use Rattle.gb_terms.specs.declared.term.Term.{Term, Term', Row_of-Term, end_of-Term, more_of-Term, end_of-Head, more_of-Head}
 use Rattle.gb_terms.specs.declared.term.Head.{Head}
@@ -11,11 +10,14 @@ use Rattle.gb_terms.specs.declared.term.Head.TheVariants.{Assign, Sample, Call',
 use Rattle.gb_terms.specs.declared.term.Instr.{Instr, Row_of-Instr, end_of-Instr, more_of-Instr}
 use Rattle.gb_goal.specs.Goal.{Code}
 use Rattle.gb_goal.specs.Goal.Code.{body, procedure}
-use Rattle.gb_goal.specs.Scope.{Declarations, entry_of, procedure_of}
+use Rattle.gb_goal.specs.Scope.{Declarations, entry_of}
+use Rattle.gb_mods.specs.declared.meant.Meant.{Meant}
+use Rattle.gb_mods.specs.declared.meant.Meant.TheVariants.{Unknown, Declared, Any}
 use Rattle.gb_goal.specs.declared.scope.Entry.{Entry}
 use Rattle.gb_goal.specs.declared.scope.Entry.TheVariants as entry
 use Rattle.gb_meaning.specs.Names.{Name}
 use Rattle.gb_mods.specs.Called.{all_reached, calls, same_procedure}
+use Rattle.gb_mods.specs.Meant.{meant_by}
 use Rattle.gb_full.specs.declared.loss.Loss as held
 use Rattle.gb_full.specs.declared.loss.Loss.TheVariants as held_loss
 use Rattle.gb_full.specs.declared.loss.Losing.{Losing}
@@ -106,7 +108,8 @@ may_lose ds t = loses_by ds (full_operators ds) t
 
 -- Bodies.
 
--- where weight may be lost: nowhere; first where this variable is sampled; or first in a call of what isn't declared
+-- where weight may be lost: nowhere; first where this variable is sampled; or first in a call of a procedure of which it isn't known what
+-- it stands for
 pub data Loss : Type 0 where
   nowhere : Loss
   sampled : Var → Loss
@@ -120,14 +123,19 @@ or_after k l = k
 abbrev pub Losses : Type 0
 Losses = List (ProcRef × Loss)
 
--- procedures, each with what it is, where it is declared
+-- procedures, each with what it stands for
 abbrev pub Reached : Type 0
-Reached = List (ProcRef × Option Proc)
+Reached = List (ProcRef × Meant)
 
 -- what is known of a procedure
 abbrev pub known_of : Losses → ProcRef → Loss
 known_of [] p = called
 known_of ((q, l) ∷ ks) p = if same_procedure q p then l else known_of ks p
+
+-- what is known of the first of these procedures that may lose weight
+abbrev pub oracles_loss : Losses → List ProcRef → Loss
+oracles_loss ks [] = nowhere
+oracles_loss ks (q ∷ qs) = or_after (known_of ks q) (oracles_loss ks qs)
 
 -- Statements, where of operators and procedures this is known.
 module _ (ds : Declarations) (ns : List Name) where
@@ -149,9 +157,11 @@ module _ (ds : Declarations) (ns : List Name) where
   body_loss ks [] = nowhere
   body_loss ks (i ∷ is) = or_after (statement_loss ks i) (body_loss ks is)
 
-  abbrev pub procedure_loss : Losses → Option Proc → Loss
-  procedure_loss ks None = called
-  procedure_loss ks (Some p) = body_loss ks p.body.list
+  -- A procedure of an abstract module loses what its oracles lose.
+  abbrev pub procedure_loss : Losses → Meant → Loss
+  procedure_loss ks Unknown = called
+  procedure_loss ks (Declared p) = body_loss ks p.body.list
+  procedure_loss ks (Any a qs) = oracles_loss ks qs
 
   -- what is known of procedures, by what is known of those that they call
   abbrev pub round : Losses → Reached → Losses
@@ -167,17 +177,17 @@ module _ (ds : Declarations) (ns : List Name) where
 unfoldable pub losses : Declarations → List Name → Reached → Losses
 losses ds ns fs = rounds ds ns (length fs) fs
 
-abbrev pub declared_each : Declarations → List ProcRef → Reached
-declared_each ds [] = []
-declared_each ds (p ∷ ps) = (p, procedure_of ds p) ∷ declared_each ds ps
+abbrev pub meant_each : Declarations → List ProcRef → Reached
+meant_each ds [] = []
+meant_each ds (p ∷ ps) = (p, meant_by ds p) ∷ meant_each ds ps
 
-abbrev pub declared_if : Declarations → Option (List ProcRef) → Reached
-declared_if ds None = []
-declared_if ds (Some ps) = declared_each ds ps
+abbrev pub meant_if : Declarations → Option (List ProcRef) → Reached
+meant_if ds None = []
+meant_if ds (Some ps) = meant_each ds ps
 
 -- what is known of procedures and of all that they call
 abbrev pub table : Declarations → List ProcRef → Losses
-table ds ps = losses ds (full_operators ds) (declared_if ds (all_reached ds ps))
+table ds ps = losses ds (full_operators ds) (meant_if ds (all_reached ds ps))
 
 -- The first loss of a body, in the order of the text, with what it calls at each call.
 abbrev pub first_loss : Declarations → List Instr → Loss
@@ -203,5 +213,5 @@ losing_seen of_code.Called = called
 abbrev pub known_seen : Known → ProcRef × Loss
 known_seen k = (k.procedure.now, losing_seen k.loss)
 
-abbrev pub reached_seen : HeldReached → ProcRef × Option Proc
-reached_seen r = (r.procedure, r.declared)
+abbrev pub reached_seen : HeldReached → ProcRef × Meant
+reached_seen r = (r.procedure, r.meant)

@@ -5,7 +5,7 @@ ghost use Rattle.std.specs.List.{list_any};
 ghost use Rattle.std.specs.Option.{option_copied};
 ghost use Rattle.gb_goal.specs.Goal.{code_of};
 ghost use Rattle.gb_mods.specs.Called.{all_reached};
-ghost use Rattle.gb_full.specs.Loss.{body_loses, body_loss, code_loss, declared_each, declared_if, each_named, entry_loses, first_loss, full_operators, head_loses, head_names, is_among, known_of, known_seen, loses_by, losing_seen, loss_seen, losses, named, names_at, operator_loses, procedure_loss, reached_seen, round, statement_loss, table, unknown, with_named};
+ghost use Rattle.gb_full.specs.Loss.{body_loses, body_loss, code_loss, meant_each, meant_if, each_named, entry_loses, first_loss, full_operators, head_loses, head_names, is_among, known_of, known_seen, loses_by, losing_seen, loss_seen, losses, named, names_at, operator_loses, oracles_loss, procedure_loss, reached_seen, round, statement_loss, table, unknown, with_named};
 
 use gb_core::Shared;
 use gb_core::copy::copy_var;
@@ -13,7 +13,7 @@ use gb_core::name::{Name, Names};
 use gb_core::var::Var;
 use gb_goal::scope::{Entry, Scope};
 use gb_mods::called::{Procedures, all_reached, calls, same_procedure};
-use gb_terms::decl::Proc;
+use gb_mods::meant::{Meant, meant_by};
 use gb_terms::module::ProcRef;
 use gb_terms::term::{Head, Instr, Subject, Term};
 use sqlite_items::Items;
@@ -25,7 +25,7 @@ pub enum Loss {
     Nowhere,
     /// First where this variable is sampled.
     Sampled(Var),
-    /// First in a call of a procedure that isn't declared.
+    /// First in a call of a procedure of which it isn't known what it stands for.
     Called,
 }
 
@@ -253,23 +253,37 @@ fn body_loss<'a>(list: &'a [Instr], scope: &Scope, full: &[Name], known: &[Known
     Losing::Nowhere
 }
 
-/// A procedure that is reached, and what it is, where it is declared.
+/// What is known of the first of these procedures that may lose weight.
+fn oracles_loss<'a>(known: &[Known<'a>], list: &[Shared<ProcRef>]) -> Losing<'a>
+    ensures { losing_seen result ≡ oracles_loss (map known_seen known.now) list.now }
+{
+    for x in list {
+        match known_of(known, x.get()) {
+            Losing::Nowhere => {}
+            found => return found,
+        }
+    }
+    Losing::Nowhere
+}
+
+/// A procedure that is reached, and what it stands for.
 #[derive(Drop)]
 struct Reached {
     procedure: Shared<ProcRef>,
-    declared: Option<Shared<Proc>>,
+    meant: Meant,
 }
 
 impl Reached {
-    /// Where it may lose weight first, with what it calls.
+    /// Where it may lose weight first, with what it calls. A procedure of an abstract module loses what its oracles lose.
     fn loss<'a>(&'a self, scope: &Scope, full: &[Name], known: &[Known<'a>]) -> Losing<'a>
-        ensures { losing_seen result ≡ procedure_loss scope.now full.now (map known_seen known.now) self.now.declared }
+        ensures { losing_seen result ≡ procedure_loss scope.now full.now (map known_seen known.now) self.now.meant }
     {
-        match &self.declared {
-            Some(procedure) => {
+        match &self.meant {
+            Meant::Unknown => Losing::Called,
+            Meant::Declared(procedure) => {
                 body_loss(procedure.get().body.list.as_slice(), scope, full, known)
             }
-            None => Losing::Called,
+            Meant::Any(_, oracles) => oracles_loss(known, oracles.as_slice()),
         }
     }
 }
@@ -310,21 +324,18 @@ fn losses<'a>(
     Ok(known)
 }
 
-fn declared_each(
+fn meant_each(
     alloc: Global,
     scope: &Scope,
     list: &[Shared<ProcRef>],
 ) -> Result<Items<Reached>, AllocError>
-    ensures { IfOk result (λ made. map reached_seen made ≡ declared_each scope.now list.now) }
+    ensures { IfOk result (λ made. map reached_seen made ≡ meant_each scope.now list.now) }
 {
     let mut all = Items::new(alloc);
     for x in list {
-        let declared = scope.procedure(alloc, x.get())?;
+        let meant = meant_by(alloc, scope, x.get())?;
         let procedure = x.share()?;
-        all.push(Reached {
-            procedure,
-            declared,
-        })?;
+        all.push(Reached { procedure, meant })?;
     }
     Ok(all)
 }
@@ -335,10 +346,10 @@ fn reached_from(
     scope: &Scope,
     first: Procedures,
 ) -> Result<Items<Reached>, AllocError>
-    ensures { IfOk result (λ made. map reached_seen made ≡ declared_if scope.now (all_reached scope.now first)) }
+    ensures { IfOk result (λ made. map reached_seen made ≡ meant_if scope.now (all_reached scope.now first)) }
 {
     match all_reached(alloc, scope, first)? {
-        Some(all) => declared_each(alloc, scope, all.as_slice()),
+        Some(all) => meant_each(alloc, scope, all.as_slice()),
         None => Ok(Items::new(alloc)),
     }
 }

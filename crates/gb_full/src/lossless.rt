@@ -17,7 +17,8 @@ use gb_terms::op::Rel;
 use gb_terms::term::{Form, RealTerm};
 use std::alloc::Global;
 
-/// Why a judgment of what loses weight is refused: `NotLossless` at a variable, and `Shape` at a call of what isn't declared.
+/// Why a judgment of what loses weight is refused: `NotLossless` at a variable, and `Shape` at a call of a
+/// procedure of which nothing is known.
 pub fn full(alloc: Global, lost: Loss) -> Result<(), Refused>
     ensures { Answers (full (loss_seen lost)) result }
 {
@@ -41,7 +42,8 @@ pub struct Judged<'a> {
 }
 
 /// The goals of a judgment of what stands before a statement. Weight that is lost there makes a probability less: the bound isn't
-/// below 0 then, or the rule is refused, with `NotLossless` at a variable, and with `Shape` at a call of what isn't declared.
+/// below 0 then, or the rule is refused, with `NotLossless` at a variable, and with `Shape` at a call of a procedure of
+/// which nothing is known.
 pub fn of_rest(
     alloc: Global,
     goal: &Sequent,

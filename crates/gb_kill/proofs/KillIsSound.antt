@@ -16,12 +16,11 @@ use Rattle.gb_terms.specs.declared.op.Rel.{Rel}
 use Rattle.gb_terms.specs.declared.op.Side.TheVariants as side
 use Rattle.gb_terms.specs.declared.term.Instr.{Instr}
 use Rattle.gb_terms.specs.declared.term.Term.{Term}
-use Rattle.gb_walk.specs.Clash.{least, variables_read}
+use Rattle.gb_walk.specs.Clash.{Exclusions, least, variables_read}
 use Rattle.gb_meaning.specs.Commands.{statements}
 use Rattle.gb_meaning.specs.Judgments.{IsTrueUnder, den, speaking}
 use Rattle.gb_meaning.specs.Meanings.{fraction_in}
 use Rattle.gb_meaning.specs.Memory.{Memory}
-use Rattle.gb_meaning.specs.Program.Routine.{routine}
 use Rattle.gb_meaning.specs.Setting.{Setting}
 use Rattle.gb_meaning.specs.Sound.{IsSound}
 use Rattle.gb_meaning.specs.State.{State, at, between}
@@ -48,17 +47,19 @@ use Rattle.gb_typing.specs.Sequents.{of_sequent, IsTypedSequent}
 use Rattle.gb_typing.proofs.Drawing.{body_sound}
 use Rattle.gb_typing.proofs.Fitting.{fits_reframed}
 use Rattle.gb_typing.proofs.Given.{refused_given, same_given}
-use Rattle.gb_typing.proofs.LinkedProcedures.{linked_there}
 use Rattle.gb_typing.proofs.Lists.{typed_append}
 use Rattle.gb_typing.proofs.Located.{typed_there}
 use Rattle.gb_full.specs.Loss.{Loss, nowhere, sampled, called, first_loss}
 use Rattle.gb_full.proofs.Full.{total_full}
 use Rattle.gb_parts.specs.OneBody.{OneBody}
 use Rattle.gb_full.specs.Lossless.{full}
+use Rattle.gb_adversaries.proofs.Meanings.{means_there}
 use Rattle.gb_prog.specs.Ends.{IsSoundLoopRule, IsSoundOnLoops}
 use Rattle.gb_prog.proofs.Couplings.{runs_gluing}
 use Rattle.gb_prog.proofs.Own.{Good, good_append}
 use Rattle.gb_premises.specs.declared.effects.Effects.{Effects}
+use Rattle.gb_mods.specs.Exclusions.{exclusions}
+use Rattle.gb_adversaries.proofs.KeptOff.{kept_off}
 use Rattle.gb_trans.specs.Effects.{effects_of, meets}
 use Rattle.gb_trans.specs.Places.{At, statement_at}
 use Rattle.gb_trans.specs.Swap.{unless_crossing}
@@ -77,19 +78,19 @@ use Rattle.gb_kill.proofs.Reading.{known_within}
 use Rattle.gb_kill.proofs.Unread.{SameBut, others_of_left, others_of_own, others_of_right, same_said}
 
 -- what is known where nothing that is written is read
-record IsUnread (r : Option (List Var)) (w : Option Effects) : Type 0 where
+record IsUnread (es : Exclusions) (r : Option (List Var)) (w : Option Effects) : Type 0 where
   read : List Var
   effects : Effects
   is_read : r ≡ Some read
   is_known : w ≡ Some effects
-  unmet : least (filter (meets read) effects.written) ≡ None
+  unmet : least (filter (meets es read) effects.written) ≡ None
 
-unread_given : (r : Option (List Var)) (w : Option Effects) (u : Unit {0}) → unread r w ≡ given u → IsUnread r w
-unread_given None w u e = refused_given Shape u e
-unread_given (Some xs) None u e = refused_given Shape u e
-unread_given (Some xs) (Some a) u e = by_least (least (filter (meets xs) a.written)) refl e
+unread_given : (es : Exclusions) (r : Option (List Var)) (w : Option Effects) (u : Unit {0}) → unread es r w ≡ given u → IsUnread es r w
+unread_given es None w u e = refused_given Shape u e
+unread_given es (Some xs) None u e = refused_given Shape u e
+unread_given es (Some xs) (Some a) u e = by_least (least (filter (meets es xs) a.written)) refl e
   where
-    by_least : (x : Option Var) → least (filter (meets xs) a.written) ≡ x → unless_crossing x ≡ given u → IsUnread (Some xs) (Some a)
+    by_least : (x : Option Var) → least (filter (meets es xs) a.written) ≡ x → unless_crossing x ≡ given u → IsUnread es (Some xs) (Some a)
     by_least None d e = record { read = xs; effects = a; is_read = refl; is_known = refl; unmet = d }
     by_least (Some x) d e = cc
 
@@ -103,7 +104,7 @@ record IsKilled (ds : Declarations) (o : OneBody) (js : List Instr) : Type 0 whe
   place : At
   was : whole place ≡ o.list
   becomes : place.before ++ place.rest ≡ js
-  dead : IsUnread (read_behind ds place.rest o.side o.post) (effects_of ds (place.statement ∷ []))
+  dead : IsUnread (exclusions ds) (read_behind ds place.rest o.side o.post) (effects_of ds (place.statement ∷ []))
   full : first_loss ds (place.statement ∷ []) ≡ nowhere
 
 killed_given : (ds : Declarations) (n : ℕ) (o : OneBody) (js : List Instr) → killed ds n o ≡ given js → IsKilled ds o js
@@ -111,12 +112,12 @@ killed_given ds n o js e =
     let z = place_given (killed_at ds o) (statement_at n o.list) js e in
     let k = z.0 in
     let x = given_bind (may_go ds o k) (λ _. given (k.before ++ k.rest)) js z.2 in
-    let y = given_bind (unread (read_behind ds k.rest o.side o.post) (effects_of ds (k.statement ∷ []))) (λ _. full (first_loss ds (k.statement ∷ []))) x.0 x.1 in
+    let y = given_bind (unread (exclusions ds) (read_behind ds k.rest o.side o.post) (effects_of ds (k.statement ∷ []))) (λ _. full (first_loss ds (k.statement ∷ []))) x.0 x.1 in
     record {
       place = k;
       was = placed n o.list k z.1;
       becomes = same_given (k.before ++ k.rest) js x.2;
-      dead = unread_given (read_behind ds k.rest o.side o.post) (effects_of ds (k.statement ∷ [])) y.0 y.1;
+      dead = unread_given (exclusions ds) (read_behind ds k.rest o.side o.post) (effects_of ds (k.statement ∷ [])) y.0 y.1;
       full = full_given (first_loss ds (k.statement ∷ [])) x.0 y.2;
     }
 
@@ -131,11 +132,6 @@ module _ (ds : Declarations) (scoped : IsTypedScope (declared ds)) (q : Sequent)
 
   typed : (p : ProcRef) (a : Proc) → procedure_of ds p ≡ Some a → IsProcedure c a
   typed p a e = (typed_there ds scoped q t.modules t.frames p a e).typed
-
-  linked : (g : Setting) → IsSettingOver (declared ds) g → (p : ProcRef) (a : Proc) → procedure_of ds p ≡ Some a → g.procedure p ≡ Some (routine a.params a.locals (statements g a.body.list) a.value)
-  linked g over p a e =
-      subst (λ h. h.procedure p ≡ Some (routine a.params a.locals (statements h a.body.list) a.value)) (sym over.meant)
-      (linked_there ds scoped over.interpretation over.chosen p a e)
 
   module _ (o : OneBody) (js : List Instr) (k : IsKilled ds o js) where
     abbrev K : At
@@ -154,7 +150,7 @@ module _ (ds : Declarations) (scoped : IsTypedScope (declared ds)) (q : Sequent)
         subst (Good g) k.becomes ((good_append g K.before K.rest).1 (x.0, y.1))
 
     module _ (g : Setting) (fits : IsSettingOf c g) (over : IsSettingOver (declared ds) g) (ls : List TypedName) (w : IsBody c ls o.list) where
-      dead : IsUnread (read_behind ds K.rest o.side o.post) (effects_of ds (K.statement ∷ []))
+      dead : IsUnread (exclusions ds) (read_behind ds K.rest o.side o.post) (effects_of ds (K.statement ∷ []))
       dead = k.dead
 
       -- the places that the statement may write
@@ -173,7 +169,7 @@ module _ (ds : Declarations) (scoped : IsTypedScope (declared ds)) (q : Sequent)
           let d = dead in
           let e = d.effects in
           let z = read_parts (reads_of ds K.rest) (variables_read o.side o.post) d.read d.is_read in
-          let all = unmet_unnamed g.types e.written d.read (uncrossed (record { written = e.written; touched = [] }) (record { written = []; touched = d.read }) d.unmet).0 in
+          let all = unmet_unnamed g (exclusions ds) (kept_off ds scoped g over) e.written d.read (uncrossed (exclusions ds) (record { written = e.written; touched = [] }) (record { written = []; touched = d.read }) d.unmet).0 in
           let parts = named_append g.types (λ p. W p ≡ false) z.0 (variables_read o.side o.post) (subst (EachNamed g.types (λ p. W p ≡ false)) (sym z.2) all) in
           (parts.1, z.0, z.1, parts.0)
 
@@ -186,8 +182,8 @@ module _ (ds : Declarations) (scoped : IsTypedScope (declared ds)) (q : Sequent)
           let x = split_typed c ls K.before (K.statement ∷ K.rest) (subst (EachStatement c ls) (sym k.was) w.statements) in
           subst (λ z. z) (λ i. Coupling (SameBut W) (run g s (k.becomes i) m) (denominator g (k.becomes i)) (run g s (k.was i) m) (denominator g (k.was i)))
           (killed_coupled g s W K.before (K.statement ∷ []) K.rest (body_sound c g fits ls K.before x.0) (body_sound c g fits ls (K.statement ∷ []) (x.1.0, tt)) (body_sound c g fits ls K.rest x.1.1)
-          (λ p h. leave_spared g ds c typed (linked g over) (K.statement ∷ []) e d.is_known p (unnamed_spared g.types e.written p h))
-          (known_within g ds c typed (linked g over) ls K.rest x.1.1 u.1 u.2 (λ p. W p ≡ false) u.3)
+          (λ p h. leave_spared g ds c typed (means_there ds scoped g over) (K.statement ∷ []) e d.is_known p (unnamed_spared g.types e.written p h))
+          (known_within g ds c typed (means_there ds scoped g over) ls K.rest x.1.1 u.1 u.2 (λ p. W p ≡ false) u.3)
           (λ n. total_full ds scoped q t g fits over ls (K.statement ∷ []) (record { locals = w.locals; statements = (x.1.0, tt) }) k.full s n) m)
 
       positive_was : 0 < denominator g o.list

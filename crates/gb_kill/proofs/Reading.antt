@@ -8,13 +8,14 @@ use Rattle.gb_terms.specs.declared.decl.TypedName.{TypedName}
 use Rattle.gb_terms.specs.declared.module.ProcRef.{ProcRef}
 use Rattle.gb_terms.specs.declared.term.Instr.{Instr}
 use Rattle.gb_meaning.specs.Commands.{statements}
-use Rattle.gb_meaning.specs.Program.Routine.{routine}
 use Rattle.gb_meaning.specs.Setting.{Setting}
 use Rattle.gb_laws.specs.Cells.{Key}
 use Rattle.gb_goal.specs.Scope.{Declarations, procedure_of}
 use Rattle.gb_mods.specs.Called.{all_reached, calls}
+use Rattle.gb_mods.specs.Meant.{meant_by}
 use Rattle.gb_mods.specs.Read.{each_read, read_by}
 use Rattle.gb_mods.proofs.Closed.{AreFollowed, IsIn, all_closed}
+use Rattle.gb_adversaries.specs.Means.{Means}
 use Rattle.gb_typing.specs.Context.{Context}
 use Rattle.gb_typing.specs.Programs.{EachStatement, IsProcedure}
 use Rattle.gb_trans.proofs.Named.{EachNamed, named_append}
@@ -45,12 +46,12 @@ known ds is xs f = by_reached (all_reached ds (calls is)) refl f
     by_reached None r f = absurd (none-some xs f)
     by_reached (Some S) r f = by_others S r (read_by ds S) refl f
 
--- declared procedures are typed, and those of the setting
+-- declared procedures are typed, and references mean what they stand for
 module _ (g : Setting) (ds : Declarations) (c : Context) (typed : (p : ProcRef) (a : Proc) → procedure_of ds p ≡ Some a → IsProcedure c a)
-    (linked : (p : ProcRef) (a : Proc) → procedure_of ds p ≡ Some a → g.procedure p ≡ Some (routine a.params a.locals (statements g a.body.list) a.value)) where
+    (means : (p : ProcRef) → Means g p (meant_by ds p)) where
   pub known_within : (ls : List TypedName) (is : List Instr) → EachStatement c ls is → (xs : List Var) → reads_of ds is ≡ Some xs → (G : Key → Type 0) → EachNamed g.types G xs →
       ReadsWithin g (At G) (statements g is)
   known_within ls is w xs e G v =
       let k = known ds is xs e in
       let z = named_append g.types G (each_read is) k.others (subst (EachNamed g.types G) (sym k.all) v) in
-      read_within g ds c typed linked k.reached k.closed G (read_each g ds G k.reached k.others k.found z.1) ls is w k.there z.0
+      read_within g ds c typed means k.reached k.closed G (read_each g ds G k.reached k.others k.found z.1) ls is w k.there z.0

@@ -24,6 +24,8 @@ use Rattle.gb_trans.specs.Effects.{effects_of, meets}
 use Rattle.gb_trans.specs.Places.{At, on_place, statement_at}
 use Rattle.gb_trans.specs.Swap.{unless_crossing}
 use Rattle.gb_trans.specs.Transformed.{transforming}
+use Rattle.gb_mods.specs.Exclusions.{exclusions}
+use Rattle.gb_walk.specs.Clash.{Exclusions}
 
 -- what statements read that call these procedures, through all of them
 abbrev pub reads_by : Declarations → List Instr → List ProcRef → Option (List Var)
@@ -33,8 +35,8 @@ abbrev pub reads_if : Declarations → List Instr → Option (List ProcRef) → 
 reads_if ds is None = None
 reads_if ds is (Some ps) = reads_by ds is ps
 
--- The variables that statements read, through every procedure that they call. They aren't known where one of these isn't declared by
--- its name.
+-- The variables that statements read, through every procedure that they call. They aren't known where it isn't known what one of
+-- these stands for.
 unfoldable pub reads_of : Declarations → List Instr → Option (List Var)
 reads_of ds is = reads_if ds is (all_reached ds (calls is))
 
@@ -43,15 +45,15 @@ abbrev pub read_behind : Declarations → List Instr → Side → Term → Optio
 read_behind ds is s q = option_map (λ xs. xs ++ variables_read s q) (reads_of ds is)
 
 -- what is written clashes with nothing that is read, else the least variable is named
-abbrev pub unread : Option (List Var) → Option Effects → Answer (Unit {0})
-unread None a = refusing Shape
-unread (Some xs) None = refusing Shape
-unread (Some xs) (Some a) = unless_crossing (least (filter (meets xs) a.written))
+abbrev pub unread : Exclusions → Option (List Var) → Option Effects → Answer (Unit {0})
+unread es None a = refusing Shape
+unread es (Some xs) None = refusing Shape
+unread es (Some xs) (Some a) = unless_crossing (least (filter (meets es xs) a.written))
 
 -- the statement writes nothing that is read behind it, and loses no weight
 abbrev pub may_go : Declarations → OneBody → At → Answer (Unit {0})
 may_go ds o k = do
-  _ ← unread (read_behind ds k.rest o.side o.post) (effects_of ds (k.statement ∷ []))
+  _ ← unread (exclusions ds) (read_behind ds k.rest o.side o.post) (effects_of ds (k.statement ∷ []))
   full (first_loss ds (k.statement ∷ []))
 
 -- the body without the statement

@@ -4,6 +4,7 @@ ghost use Rattle.std.specs.Prelude.{◌≡◌, ◌++◌, IfOk};
 ghost use Rattle.gb_goal.specs.Answers.{Answers};
 ghost use Rattle.gb_goal.specs.Rows.{answered};
 ghost use Rattle.gb_parts.specs.OneBody.{one_seen};
+ghost use Rattle.gb_mods.specs.Exclusions as excluding;
 ghost use Rattle.gb_trans.specs.Effects as effect;
 ghost use Rattle.gb_trans.specs.Places.{placed_seen};
 ghost use Rattle.gb_kill.specs.Kill.{kill_row, killed, may_go, read_behind, unread};
@@ -17,6 +18,7 @@ use gb_full::lossless::full;
 use gb_goal::goal::goal_of;
 use gb_goal::scope::Scope;
 use gb_goal::sequent::{Sequent, Sequents};
+use gb_mods::exclusions::exclusions;
 use gb_parts::one_body::{OneBody, one_body, side_of};
 use gb_parts::subgoals::{no_shape, refusal};
 use gb_steps::step::Acts;
@@ -54,7 +56,7 @@ fn check_behind(
     one: &OneBody<'_>,
     rest: &[Instr],
 ) -> Result<(), Refused>
-    ensures { Answers (let o = one_seen one.now in unread (read_behind scope.now rest.now o.side o.post) (effect.effects_of scope.now list.now)) result }
+    ensures { Answers (let o = one_seen one.now in unread (excluding.exclusions scope.now) (read_behind scope.now rest.now o.side o.post) (effect.effects_of scope.now list.now)) result }
 {
     let side = side_of(one.around);
     let Some(read) = read_behind(alloc, scope, rest, &side, one.post)? else {
@@ -63,7 +65,9 @@ fn check_behind(
     let Some(effects) = effects_of(alloc, scope, list)? else {
         return Err(no_shape());
     };
-    match least_met(None, effects.written.as_slice(), read.as_slice()) {
+    let excluded = exclusions(alloc, scope)?;
+    let written = effects.written.as_slice();
+    match least_met(None, excluded.as_slice(), written, read.as_slice()) {
         Some(x) => Err(refusal(Why::SideCondition(copy_var(alloc, x)?))),
         None => Ok(()),
     }

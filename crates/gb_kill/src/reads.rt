@@ -36,7 +36,7 @@ fn reads_by(
     Ok(Some(found))
 }
 
-/// The variables that statements read, through every procedure that they call. None where one of these isn't declared by its name.
+/// The variables that statements read, through every procedure that they call. None where it isn't known what one of these stands for.
 #[tactic(auto, unfolding(crate::specs::Kill::reads_of))]
 pub fn reads_of(alloc: Global, scope: &Scope, list: &[Instr]) -> Result<Option<Vars>, AllocError>
     ensures { IfOk result (λ made. made ≡ reads_of scope.now list.now) }

@@ -9,6 +9,7 @@ use Rattle.gb_terms.specs.declared.term.Head.TheViews.{out-Term, outs-struct-Ter
 use Rattle.gb_terms.specs.Make.{node}
 use Rattle.gb_meaning.specs.Written.{type_of}
 use Rattle.gb_laws.specs.Typing.{types_of}
+use Rattle.gb_walk.specs.Clash.{Exclusions}
 use Rattle.gb_reads.specs.Reads.{Vars, are_free, reads_of}
 use Rattle.gb_labels.specs.Labels.{Labels, labelled_ty}
 use Rattle.gb_labels.specs.Things.{all_read_freely, all_things_at, bound_by, of_types, reads_freely, reads_inside, reads_under, thing_of, things_at}
@@ -56,17 +57,17 @@ reads_out (Term' p (more_of-Head h end_of-Head) n r ty) =
     ∙ ap (reads_in h) (sym (items_shown-the_row-Term-0 n r))
     ∙ sym (ap (λ z. reads_in z.head z.args) (outs-struct-Term p (more_of-Head h end_of-Head) n r ty))
 
-freely_row : (n : _) (r : Row_of-Term n) → all_read_freely r ≡ list_all reads_freely (items-the_row-Term n r)
-freely_row n end_of-Term = refl
-freely_row n (more_of-Term t r) = ap (λ b. reads_freely t && b) (freely_row _ r)
+freely_row : (es : Exclusions) (n : _) (r : Row_of-Term n) → all_read_freely es r ≡ list_all (reads_freely es) (items-the_row-Term n r)
+freely_row es n end_of-Term = refl
+freely_row es n (more_of-Term t r) = ap (λ b. reads_freely es t && b) (freely_row es _ r)
 
-pub freely_out : (t : Term) → reads_freely t ≡ (are_free (reads_under t) && list_all reads_freely (out-Term t).args)
+pub freely_out : (es : Exclusions) (t : Term) → reads_freely es t ≡ (are_free es (reads_under t) && list_all (reads_freely es) (out-Term t).args)
 unfolding Rattle.gb_terms.specs.declared.term.Head.TheBlock.shown-the_row-Head-2 denote.Hole.Carrier.shown
-freely_out (Term' p (more_of-Head h end_of-Head) n r ty) =
-    let free : Bool = are_free (reads_inside h r) in
-    ap (λ b. free && b) (freely_row _ r)
-    ∙ ap (λ l. free && list_all reads_freely l) (sym (items_shown-the_row-Term-0 n r))
-    ∙ sym (ap (λ z. free && list_all reads_freely z.args) (outs-struct-Term p (more_of-Head h end_of-Head) n r ty))
+freely_out es (Term' p (more_of-Head h end_of-Head) n r ty) =
+    let free : Bool = are_free es (reads_inside h r) in
+    ap (λ b. free && b) (freely_row es _ r)
+    ∙ ap (λ l. free && list_all (reads_freely es) l) (sym (items_shown-the_row-Term-0 n r))
+    ∙ sym (ap (λ z. free && list_all (reads_freely es) z.args) (outs-struct-Term p (more_of-Head h end_of-Head) n r ty))
 
 module _ (ls : Labels) where
   labelled_row : (n : _) (r : Row_of-Term n) → items-the_row-Term n (all_labelled ls r) ≡ map (labelled ls) (items-the_row-Term n r)

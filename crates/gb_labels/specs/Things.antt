@@ -17,6 +17,7 @@ use Rattle.gb_meaning.specs.Names.{Name}
 use Rattle.gb_meaning.specs.Operators.{outcome_type}
 use Rattle.gb_laws.specs.Typing.{types_of}
 use Rattle.gb_meaning.proofs.SameTerms.{same_terms}
+use Rattle.gb_walk.specs.Clash.{Exclusions}
 use Rattle.gb_reads.specs.Reads.{Vars, are_free, reads_of}
 use Rattle.gb_labels.specs.declared.things.Source.{Source}
 use Rattle.gb_labels.specs.declared.things.Source.TheVariants.{Variable, Opened, Place}
@@ -148,12 +149,12 @@ modules_in xs = all_names (map (λ x. modules_of x.ty) xs)
 
 abbrev mutual
   -- no two reads through one bound memory clash
-  pub reads_freely : Term → Bool
-  reads_freely (Term' p (more_of-Head h end_of-Head) n ts a) = are_free (reads_inside h ts) && all_read_freely ts
+  pub reads_freely : Exclusions → Term → Bool
+  reads_freely es (Term' p (more_of-Head h end_of-Head) n ts a) = are_free es (reads_inside h ts) && all_read_freely es ts
 
-  pub all_read_freely : {n : _} → Row_of-Term n → Bool
-  all_read_freely end_of-Term = true
-  all_read_freely (more_of-Term t ts) = reads_freely t && all_read_freely ts
+  pub all_read_freely : {n : _} → Exclusions → Row_of-Term n → Bool
+  all_read_freely es end_of-Term = true
+  all_read_freely es (more_of-Term t ts) = reads_freely es t && all_read_freely es ts
 
 -- one more of a module
 abbrev pub with_one : Labels → Name → Labels
@@ -167,5 +168,5 @@ counted ls (m ∷ ms) = counted (with_one ls m) ms
 
 -- The greatest numbers of labels, as many for a module as there are things of its globals; none where a thing holds globals in another
 -- way, or where two reads through one bound memory clash.
-abbrev pub most_labels : List Term → Term → Option Labels
-most_labels hyps t = if list_all reads_freely hyps && reads_freely t then option_map (counted []) (modules_in (things_in hyps t)) else None
+abbrev pub most_labels : Exclusions → List Term → Term → Option Labels
+most_labels es hyps t = if list_all (reads_freely es) hyps && reads_freely es t then option_map (counted []) (modules_in (things_in hyps t)) else None

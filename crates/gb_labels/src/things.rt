@@ -16,6 +16,7 @@ use gb_terms::op::{Op, Read, Side};
 use gb_terms::same::{same, same_read};
 use gb_terms::share::copy_read;
 use gb_terms::term::{Head, Term};
+use gb_walk::clash::Excluded;
 use sqlite_items::Items;
 use std::alloc::{AllocError, Global};
 
@@ -184,23 +185,27 @@ fn things_in(alloc: Global, hyps: &[Term], conclusion: &Term) -> Result<Things, 
 /// Whether no two reads through one bound memory clash.
 #[cycle(reads_freely)]
 #[tactic(auto, using(crate::proofs::Layers::freely_out))]
-fn reads_freely(alloc: Global, t: &Term) -> Result<bool, AllocError>
-    ensures { IfOk result (λ b. b ≡ reads_freely t.now) }
+fn reads_freely(alloc: Global, exclusions: &[Excluded], t: &Term) -> Result<bool, AllocError>
+    ensures { IfOk result (λ b. b ≡ reads_freely exclusions.now t.now) }
 {
     let variables = reads_inside(alloc, t)?;
-    if are_free(variables.as_slice()) {
-        all_read_freely(alloc, t.args.as_slice())
+    if are_free(exclusions, variables.as_slice()) {
+        all_read_freely(alloc, exclusions, t.args.as_slice())
     } else {
         Ok(false)
     }
 }
 
 #[cycle(reads_freely)]
-fn all_read_freely(alloc: Global, terms: &[Term]) -> Result<bool, AllocError>
-    ensures { IfOk result (λ b. b ≡ list_all reads_freely terms.now) }
+fn all_read_freely(
+    alloc: Global,
+    exclusions: &[Excluded],
+    terms: &[Term],
+) -> Result<bool, AllocError>
+    ensures { IfOk result (λ b. b ≡ list_all (reads_freely exclusions.now) terms.now) }
 {
     for t in terms {
-        if !reads_freely(alloc, t)? {
+        if !reads_freely(alloc, exclusions, t)? {
             return Ok(false);
         }
     }
@@ -268,12 +273,13 @@ fn number_of_things(alloc: Global, list: &[Thing]) -> Result<Option<Labels>, All
 /// none where a thing holds globals in a way that labels don't allow, or where two reads through one bound memory clash.
 pub fn most_labels(
     alloc: Global,
+    exclusions: &[Excluded],
     hyps: &[Term],
     conclusion: &Term,
 ) -> Result<Option<Labels>, AllocError>
-    ensures { IfOk result (λ made. made ≡ most_labels hyps.now conclusion.now) }
+    ensures { IfOk result (λ made. made ≡ most_labels exclusions.now hyps.now conclusion.now) }
 {
-    if !all_read_freely(alloc, hyps)? || !reads_freely(alloc, conclusion)? {
+    if !all_read_freely(alloc, exclusions, hyps)? || !reads_freely(alloc, exclusions, conclusion)? {
         return Ok(None);
     }
     let list = things_in(alloc, hyps, conclusion)?;

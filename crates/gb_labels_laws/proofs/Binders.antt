@@ -20,6 +20,7 @@ use Rattle.gb_laws.specs.Finite.{IsInhabited}
 use Rattle.gb_laws.specs.Typing.{Binder}
 use Rattle.gb_laws.specs.Typing.Binder.{value, index, memory}
 use Rattle.gb_laws.proofs.Meanings.{fraction_above}
+use Rattle.gb_walk.specs.Clash.{Exclusions}
 use Rattle.gb_reads.specs.Reads.{Vars, are_free}
 use Rattle.gb_labels.specs.Things.{modules_of}
 use Rattle.gb_labels_laws.specs.Pairs.{Pairing}
@@ -46,7 +47,7 @@ sum_same (suc n) f g h =
     let last = h n (omega arith) in
     λ i. plus (rest i) (last i)
 
-module _ (g h : Setting) (alike : AreAlike g h) (T : ReadTypes) (bs : List Binder) (vss : List Vars) (x : Sides) where
+module _ {es : Exclusions} (g h : Setting) (alike : AreAlike es g h) (T : ReadTypes) (bs : List Binder) (vss : List Vars) (x : Sides) where
   -- inside of a binder of values
 
   module _ (a : Ty) (vs : Vars) (side : IsSide g h T (value a ∷ bs) (vs ∷ vss) x) where
@@ -97,7 +98,7 @@ module _ (g h : Setting) (alike : AreAlike g h) (T : ReadTypes) (bs : List Binde
             let n = back u.0 u.1 in some_value_make (values g.types a) (lawful g.types a) (λ v. truth (at_value x.left s v)) n.0 n.1 (n.2 ∙ u.2))
 
   -- inside of a binder of a memory: each memory has a partner over longer lists of pairs
-  module _ (vs : Vars) (inhabited : IsInhabited g.types) (free : are_free vs ≡ true) (counted : AreCountedTypes vs) (typed : HaveTypes vs) (side : IsSide g h T (memory ∷ bs) (vs ∷ vss) x) (is_test : x.ty ≡ ty.Bool)
+  module _ (vs : Vars) (inhabited : IsInhabited g.types) (free : are_free es vs ≡ true) (counted : AreCountedTypes vs) (typed : HaveTypes vs) (side : IsSide g h T (memory ∷ bs) (vs ∷ vss) x) (is_test : x.ty ≡ ty.Bool)
       (P : Pairing g.types h.types) (s r : State) (f : HasFirsts g.types h.types P.pairs x.opened) (m : HasRoom g.types h.types P.pairs (modules_read vs ++ x.quantified))
       (q : StateRelated g h P.pairs T bs vss s r) where
     in_memories : (Q : Pairing g.types h.types) → IsLonger g.types h.types P Q → HasRoom g.types h.types Q.pairs x.quantified → (n o : Memory) → ReadsRelated g.types h.types Q.pairs vs n o →
@@ -109,12 +110,12 @@ module _ (g h : Setting) (alike : AreAlike g h) (T : ReadTypes) (bs : List Binde
 
     pub memory_forth : (n : Memory) → (o : Memory) × (truth (x.left.meaning (under s (bound_memory n))) ≡ truth (x.right.meaning (under r (bound_memory o))))
     memory_forth n =
-        let o = partner g.types h.types alike.sizes inhabited alike.inhabited alike.left_once alike.right_once vs free counted typed P n x.quantified m in
+        let o = partner g.types h.types alike.sizes inhabited alike.inhabited alike.left_once alike.right_once es alike.right_apart vs free counted typed P n x.quantified m in
         (o.memory, in_memories o.pairing o.longer o.room n o.memory o.related)
 
     pub memory_back : (o : Memory) → (n : Memory) × (truth (x.left.meaning (under s (bound_memory n))) ≡ truth (x.right.meaning (under r (bound_memory o))))
     memory_back o =
-        let n = copartner g.types h.types alike.sizes inhabited alike.inhabited alike.left_once alike.right_once vs free counted typed P o x.quantified m in
+        let n = copartner g.types h.types alike.sizes inhabited alike.inhabited alike.left_once alike.right_once es alike.left_apart vs free counted typed P o x.quantified m in
         (n.memory, in_memories n.pairing n.longer n.room n.memory o n.related)
 
   -- inside of a sum

@@ -20,6 +20,7 @@ use Rattle.gb_meaning.specs.Written.{type_of}
 use Rattle.gb_walk.specs.Layers.{seen_by}
 use Rattle.gb_laws.specs.Operators.{IsDistributionType, IsOperator}
 use Rattle.gb_laws.specs.Typing.{Context, types_of, IsHead, IsMemory, binder, inner, IsTyped, AreTyped}
+use Rattle.gb_walk.specs.Clash.{Exclusions}
 use Rattle.gb_reads.specs.Reads.{Vars, are_free, each_reads, head_reads, inside, is_among, joined, reads_at}
 use Rattle.gb_labels.specs.declared.things.Source.{Source}
 use Rattle.gb_labels.specs.declared.things.Source.TheVariants.{Variable, Opened, Place}
@@ -144,54 +145,55 @@ module _ (T : ReadTypes) where
   counted_types [] k = tt
   counted_types (v ∷ vs) k = (k.0.0, counted_types vs k.1)
 
-  module _ (c : Context) (vss : List Vars) (t : Term) (a : Ty) {n : Count} (ts : Row_of-Term n) where
-    head_counts : (d : Head) → IsHead c d (types_of ts) a → IsOfValuesAt d → Each ThingCounts (thing_of d t a) → Each ThingCounts (of_types (bound_by d (types_of ts) (reads_inside d ts))) →
-        are_free (reads_inside d ts) ≡ true → AreSeen c vss (head_reads d a) → CountsAt T vss d (reads_inside d ts) a
-    head_counts (head.Read (Logical i)) w v k l f s = k.0.1
-    head_counts (head.Read (Program x side.Own)) w v k l f s = k.0.1
-    head_counts (head.Read (Program x side.Left)) w v k l f s = k.0.1
-    head_counts (head.Read (Program x side.Right)) w v k l f s = k.0.1
-    head_counts (head.Read (Program x (side.Memory i))) w v k l f s = k.0.1
-    head_counts (head.Read (Program x (side.Bound i))) w v k l f s = bound_read x i (get_or vss i []) a (s i (bound_side c x i (types_of ts) a w))
-    head_counts (head.Builtin o) w v k l f s = made_counts o t a (types_of ts) w k
-    head_counts (head.All u) w v k l f s = l.0.0
-    head_counts (head.Some u) w v k l f s = l.0.0
-    head_counts head.AllMemory w v k l f s = (f, counted_types (reads_inside head.AllMemory ts) l)
-    head_counts head.SomeMemory w v k l f s = (f, counted_types (reads_inside head.SomeMemory ts) l)
-    head_counts _ w v k l f s = v
+  module _ (es : Exclusions) where
+    module _ (c : Context) (vss : List Vars) (t : Term) (a : Ty) {n : Count} (ts : Row_of-Term n) where
+      head_counts : (d : Head) → IsHead c d (types_of ts) a → IsOfValuesAt d → Each ThingCounts (thing_of d t a) → Each ThingCounts (of_types (bound_by d (types_of ts) (reads_inside d ts))) →
+          are_free es (reads_inside d ts) ≡ true → AreSeen c vss (head_reads d a) → CountsAt es T vss d (reads_inside d ts) a
+      head_counts (head.Read (Logical i)) w v k l f s = k.0.1
+      head_counts (head.Read (Program x side.Own)) w v k l f s = k.0.1
+      head_counts (head.Read (Program x side.Left)) w v k l f s = k.0.1
+      head_counts (head.Read (Program x side.Right)) w v k l f s = k.0.1
+      head_counts (head.Read (Program x (side.Memory i))) w v k l f s = k.0.1
+      head_counts (head.Read (Program x (side.Bound i))) w v k l f s = bound_read x i (get_or vss i []) a (s i (bound_side c x i (types_of ts) a w))
+      head_counts (head.Builtin o) w v k l f s = made_counts o t a (types_of ts) w k
+      head_counts (head.All u) w v k l f s = l.0.0
+      head_counts (head.Some u) w v k l f s = l.0.0
+      head_counts head.AllMemory w v k l f s = (f, counted_types (reads_inside head.AllMemory ts) l)
+      head_counts head.SomeMemory w v k l f s = (f, counted_types (reads_inside head.SomeMemory ts) l)
+      head_counts _ w v k l f s = v
 
-  mutual
-    -- a well-typed term of values whose things are counted, and whose reads are among those of their binders, is counted
-    pub term_counts : (c : Context) (vss : List Vars) (t : Term) → IsTyped c t → IsOfValues t → reads_freely t ≡ true → AreSeen c vss (reads_at t) → Each ThingCounts (things_at t) → Counts T vss t
-    term_counts c vss (Term' p (more_of-Head d end_of-Head) n ts a) w v f s k =
-        let t : Term = Term' p (more_of-Head d end_of-Head) n ts a in
-        let vs : Vars = reads_inside d ts in
-        let bound = of_types (bound_by d (types_of ts) vs) in
-        let free = and_parts (are_free vs) (all_read_freely ts) f in
-        let behind = each_right ThingCounts (thing_of d t a) (bound ++ all_things_at ts) k in (
-          head_counts c vss t a ts d w.0 v.0 (each_left ThingCounts (thing_of d t a) (bound ++ all_things_at ts) k) (each_left ThingCounts bound (all_things_at ts) behind) free.0
-              (λ i m. among_left (head_reads d a i) (joined (seen_by i (inside d i) (each_reads ts))) (get_or vss i []) (s i m)),
-          row_counts c (inner c d (types_of ts)) d vs vss (inside_of d vs vss) (seen_under c d (types_of ts) a w.0 vs vss) ts w.1 v.1 free.1
-              (λ i m. among_right (head_reads d a i) (joined (seen_by i (inside d i) (each_reads ts))) (get_or vss i []) (s i m)) (own_among c d ts a w.0)
-              (each_right ThingCounts bound (all_things_at ts) behind),
-        )
+    mutual
+      -- a well-typed term of values whose things are counted, and whose reads are among those of their binders, is counted
+      pub term_counts : (c : Context) (vss : List Vars) (t : Term) → IsTyped c t → IsOfValues t → reads_freely es t ≡ true → AreSeen c vss (reads_at t) → Each ThingCounts (things_at t) → Counts es T vss t
+      term_counts c vss (Term' p (more_of-Head d end_of-Head) n ts a) w v f s k =
+          let t : Term = Term' p (more_of-Head d end_of-Head) n ts a in
+          let vs : Vars = reads_inside d ts in
+          let bound = of_types (bound_by d (types_of ts) vs) in
+          let free = and_parts (are_free es vs) (all_read_freely es ts) f in
+          let behind = each_right ThingCounts (thing_of d t a) (bound ++ all_things_at ts) k in (
+            head_counts c vss t a ts d w.0 v.0 (each_left ThingCounts (thing_of d t a) (bound ++ all_things_at ts) k) (each_left ThingCounts bound (all_things_at ts) behind) free.0
+                (λ i m. among_left (head_reads d a i) (joined (seen_by i (inside d i) (each_reads ts))) (get_or vss i []) (s i m)),
+            row_counts c (inner c d (types_of ts)) d vs vss (inside_of d vs vss) (seen_under c d (types_of ts) a w.0 vs vss) ts w.1 v.1 free.1
+                (λ i m. among_right (head_reads d a i) (joined (seen_by i (inside d i) (each_reads ts))) (get_or vss i []) (s i m)) (own_among c d ts a w.0)
+                (each_right ThingCounts bound (all_things_at ts) behind),
+          )
 
-    row_counts : {n : Count} (c e : Context) (d : Head) (vs : Vars) (vss wss : List Vars) →
-        ((t : Term) → (BindsMemory d → AllAmong (reads_at t 0) vs) → ((i : ℕ) → IsMemory (binder c i) → AllAmong (reads_at t (inside d i)) (get_or vss i [])) → AreSeen e wss (reads_at t)) →
-        (ts : Row_of-Term n) → AreTyped c e ts → AreOfValues ts → all_read_freely ts ≡ true → AreSeen c vss (λ i. joined (seen_by i (inside d i) (each_reads ts))) →
-        (BindsMemory d → LastAmong vs ts) → Each ThingCounts (all_things_at ts) → AllCount T vss wss ts
-    row_counts c e d vs vss wss under end_of-Term w v f s own k = tt
-    row_counts c e d vs vss wss under (more_of-Term t end_of-Term) w v f s own k =
-        term_counts e wss t w v.0 (and_parts (reads_freely t) true f).0 (under t own (λ i m. among_left (reads_at t (inside d i)) [] (get_or vss i []) (s i m)))
-        (each_left ThingCounts (things_at t) [] k)
-    row_counts c e d vs vss wss under (more_of-Term t (more_of-Term u ts)) w v f s own k =
-        let others = more_of-Term u ts in
-        let free = and_parts (reads_freely t) (all_read_freely others) f in (
-          term_counts c vss t w.0 v.0 free.0 (λ i m. among_left (reads_at t i) (joined (seen_by i (inside d i) (each_reads others))) (get_or vss i []) (s i m))
-              (each_left ThingCounts (things_at t) (all_things_at others) k),
-          row_counts c e d vs vss wss under (more_of-Term u ts) w.1 v.1 free.1 (λ i m. among_right (reads_at t i) (joined (seen_by i (inside d i) (each_reads others))) (get_or vss i []) (s i m)) own
-              (each_right ThingCounts (things_at t) (all_things_at others) k),
-        )
+      row_counts : {n : Count} (c e : Context) (d : Head) (vs : Vars) (vss wss : List Vars) →
+          ((t : Term) → (BindsMemory d → AllAmong (reads_at t 0) vs) → ((i : ℕ) → IsMemory (binder c i) → AllAmong (reads_at t (inside d i)) (get_or vss i [])) → AreSeen e wss (reads_at t)) →
+          (ts : Row_of-Term n) → AreTyped c e ts → AreOfValues ts → all_read_freely es ts ≡ true → AreSeen c vss (λ i. joined (seen_by i (inside d i) (each_reads ts))) →
+          (BindsMemory d → LastAmong vs ts) → Each ThingCounts (all_things_at ts) → AllCount es T vss wss ts
+      row_counts c e d vs vss wss under end_of-Term w v f s own k = tt
+      row_counts c e d vs vss wss under (more_of-Term t end_of-Term) w v f s own k =
+          term_counts e wss t w v.0 (and_parts (reads_freely es t) true f).0 (under t own (λ i m. among_left (reads_at t (inside d i)) [] (get_or vss i []) (s i m)))
+          (each_left ThingCounts (things_at t) [] k)
+      row_counts c e d vs vss wss under (more_of-Term t (more_of-Term u ts)) w v f s own k =
+          let others = more_of-Term u ts in
+          let free = and_parts (reads_freely es t) (all_read_freely es others) f in (
+            term_counts c vss t w.0 v.0 free.0 (λ i m. among_left (reads_at t i) (joined (seen_by i (inside d i) (each_reads others))) (get_or vss i []) (s i m))
+                (each_left ThingCounts (things_at t) (all_things_at others) k),
+            row_counts c e d vs vss wss under (more_of-Term u ts) w.1 v.1 free.1 (λ i m. among_right (reads_at t i) (joined (seen_by i (inside d i) (each_reads others))) (get_or vss i []) (s i m)) own
+                (each_right ThingCounts (things_at t) (all_things_at others) k),
+          )
 
 -- Quantified variables, and those of quantified memories, are among the things at their places; the values of options are things too.
 module _ (m : Name) where

@@ -28,6 +28,7 @@ pub mod GloblessResults
 pub mod ScopeOperators
 pub mod Memories
 pub mod Listing
+pub mod LabelsApart
 pub mod ReadStates
 pub mod Placed
 pub mod Models

@@ -27,6 +27,7 @@ use Rattle.gb_labels.specs.declared.things.Source.{Source}
 use Rattle.gb_labels.specs.declared.things.Source.TheVariants.{Variable, Opened, Place}
 use Rattle.gb_labels.specs.declared.things.Thing.{Thing}
 use Rattle.gb_labels.specs.Labels.{Labels}
+use Rattle.gb_walk.specs.Clash.{Exclusions}
 use Rattle.gb_reads.specs.Reads.{reads_at}
 use Rattle.gb_labels.specs.Things.{holds_glob, modules_of, things_at, is_noted, things_in, modules_in, reads_freely, counted, most_labels}
 use Rattle.gb_labels_laws.specs.Pairs.{Pairing}
@@ -92,8 +93,8 @@ module _ (A B : Term → Type 0) (k : (f : Term) → A f → B f) where
   each_form : (hyps : List Term) (t : Term) → OfClaim A hyps t → OfClaim B hyps t
   each_form hyps t l = (each_hyp hyps l.0, k t l.1)
 
-module _ (c : Context) (g h : Setting) (i : IsSettingOf c g) (alike : AreAlike g h) (apart : AreApart c) (closed : c.bound ≡ []) (j k : Speaks) (sj : SaysOfMemories g j) (sk : SaysOfMemories h k)
-    (T : ReadTypes) (hyps : List Term) (t : Term) (claim : OfClaim (IsClaimed c T) hyps t) (s : State) (held : HasReadValues g T s) (freely : OfClaim (λ f. reads_freely f ≡ true) hyps t)
+module _ {es : Exclusions} (c : Context) (g h : Setting) (i : IsSettingOf c g) (alike : AreAlike es g h) (apart : AreApart c) (closed : c.bound ≡ []) (j k : Speaks) (sj : SaysOfMemories g j) (sk : SaysOfMemories h k)
+    (T : ReadTypes) (hyps : List Term) (t : Term) (claim : OfClaim (IsClaimed c T) hyps t) (s : State) (held : HasReadValues g T s) (freely : OfClaim (λ f. reads_freely es f ≡ true) hyps t)
     (ms : List Name) (are_counted : modules_in (things_in hyps t) ≡ Some ms) (labelled : HaveLabels g.types h.types (counted [] ms)) where
   abbrev things : List Thing
   things = flat_map things_at hyps ++ things_at t
@@ -284,13 +285,13 @@ module _ (c : Context) (g h : Setting) (i : IsSettingOf c g) (alike : AreAlike g
         bound = subst (λ bs. BoundRelated g.types h.types found.pairs bs [] s.bound r.bound) (sym closed) tt;
       }
 
-      form_true : (f : Term) → IsClaimed c T f → reads_freely f ≡ true → Each (ThingCounts its) (things_at f) → HasFirsts g.types h.types found.pairs (opened f) → HasRoom g.types h.types found.pairs (quantified f) →
+      form_true : (f : Term) → IsClaimed c T f → reads_freely es f ≡ true → Each (ThingCounts its) (things_at f) → HasFirsts g.types h.types found.pairs (opened f) → HasRoom g.types h.types found.pairs (quantified f) →
           IsAsTrue g j s h k r f
       form_true f l u n o q =
           truth_related g.types h.types alike.sizes found.pairs (type_of f) l.truth (val g j f s) (val h k f r)
-          (term_related c g h i alike apart its j k sj sk f c [] refl l.typed (term_counts its c [] f l.typed l.of_values u (none_seen c closed (reads_at f)) n) found s r o q states)
+          (term_related c g h i alike apart its j k sj sk f c [] refl l.typed (term_counts its es c [] f l.typed l.of_values u (none_seen c closed (reads_at f)) n) found s r o q states)
 
-      hyps_true : (fs : List Term) → AllByRecursion (IsClaimed c T) fs → AllByRecursion (λ f. reads_freely f ≡ true) fs → Each (ThingCounts its) (flat_map things_at fs) → HasFirsts g.types h.types found.pairs (flat_map opened fs) →
+      hyps_true : (fs : List Term) → AllByRecursion (IsClaimed c T) fs → AllByRecursion (λ f. reads_freely es f ≡ true) fs → Each (ThingCounts its) (flat_map things_at fs) → HasFirsts g.types h.types found.pairs (flat_map opened fs) →
           HasRoom g.types h.types found.pairs (flat_map quantified fs) → AllByRecursion (IsAsTrue g j s h k r) fs
       hyps_true [] l u n o q = tt
       hyps_true (f ∷ fs) l u n o q = (
@@ -326,19 +327,19 @@ counted_some (Some ms) most e = (ms, refl, labels_are (counted [] ms) most e)
     labels_are a b e = cc
 
 -- where there are numbers of labels, no two reads through one bound memory clash
-all_free : (hyps : List Term) → list_all reads_freely hyps ≡ true → AllByRecursion (λ f. reads_freely f ≡ true) hyps
-all_free [] e = tt
-all_free (f ∷ hyps) e = let both = and_parts (reads_freely f) (list_all reads_freely hyps) e in (both.0, all_free hyps both.1)
+all_free : (es : Exclusions) (hyps : List Term) → list_all (reads_freely es) hyps ≡ true → AllByRecursion (λ f. reads_freely es f ≡ true) hyps
+all_free es [] e = tt
+all_free es (f ∷ hyps) e = let both = and_parts (reads_freely es f) (list_all (reads_freely es) hyps) e in (both.0, all_free es hyps both.1)
 
 freely_some : (b : Bool) (o : Option Labels) (most : Labels) → (if b then o else None) ≡ Some most → (b ≡ true) × (o ≡ Some most)
 freely_some true o most e = (refl, e)
 freely_some false o most e = absurd (cc)
 
-pub small_model : (c : Context) (g h : Setting) → IsSettingOf c g → AreAlike g h → AreApart c → c.bound ≡ [] → (j k : Speaks) → SaysOfMemories g j → SaysOfMemories h k →
-    (T : ReadTypes) (hyps : List Term) (t : Term) → OfClaim (IsClaimed c T) hyps t → (most : Labels) → most_labels hyps t ≡ Some most → HaveLabels g.types h.types most →
+pub small_model : (es : Exclusions) (c : Context) (g h : Setting) → IsSettingOf c g → AreAlike es g h → AreApart c → c.bound ≡ [] → (j k : Speaks) → SaysOfMemories g j → SaysOfMemories h k →
+    (T : ReadTypes) (hyps : List Term) (t : Term) → OfClaim (IsClaimed c T) hyps t → (most : Labels) → most_labels es hyps t ≡ Some most → HaveLabels g.types h.types most →
     (s : State) → HasReadValues g T s → IsModelled g j s h k hyps t
-small_model c g h i alike apart closed j k sj sk T hyps t claim most e labelled s held =
-    let both = freely_some (list_all reads_freely hyps && reads_freely t) (option_map (counted []) (modules_in (things_in hyps t))) most e in
-    let free = and_parts (list_all reads_freely hyps) (reads_freely t) both.0 in
+small_model es c g h i alike apart closed j k sj sk T hyps t claim most e labelled s held =
+    let both = freely_some (list_all (reads_freely es) hyps && reads_freely es t) (option_map (counted []) (modules_in (things_in hyps t))) most e in
+    let free = and_parts (list_all (reads_freely es) hyps) (reads_freely es t) both.0 in
     let n = counted_some (modules_in (things_in hyps t)) most both.1 in
-    modelled c g h i alike apart closed j k sj sk T hyps t claim s held (all_free hyps free.0, free.1) n.0 n.1 (subst (HaveLabels g.types h.types) (sym n.2) labelled)
+    modelled c g h i alike apart closed j k sj sk T hyps t claim s held (all_free es hyps free.0, free.1) n.0 n.1 (subst (HaveLabels g.types h.types) (sym n.2) labelled)

@@ -1,5 +1,5 @@
 -- A typed claim is as true in a setting with labels as in a setting, where the labels are as many as the claim has things of them.
-use Rattle.std.proofs.Common.{◌≡◌, ℕ, ◌<◌, ◌≤◌, ◌⊎◌, Bool, true, false, ◌&&◌, if◌then◌else◌, Some, None, List, [], ◌∷◌, length, refl, sym, subst}
+use Rattle.std.proofs.Common.{◌≡◌, ℕ, ◌<◌, ◌≤◌, ◌⊎◌, Bool, true, false, ◌&&◌, if◌then◌else◌, Some, None, List, [], ◌∷◌, ◌++◌, length, refl, sym, subst}
 use Rattle.std.specs.List.{list_all, AllByRecursion}
 use Rattle.std.specs.Option.{option_map}
 use Rattle.gb_core.specs.declared.ty.Ty.{Ty}
@@ -27,6 +27,8 @@ use Rattle.gb_typing.specs.Fits.{IsSettingOf}
 use Rattle.gb_typing.specs.Typing.{IsTyped, IsForm}
 use Rattle.gb_typing.proofs.Erased.{erased_typed}
 use Rattle.gb_amb.proofs.Wider.{small}
+use Rattle.gb_walk.specs.Clash.{Exclusions}
+use Rattle.gb_reads.specs.Memories.{AreKeptApart}
 use Rattle.gb_labels.specs.Labels.{Labels, choices, choice_at, count_of, labels}
 use Rattle.gb_labels.specs.Things.{most_labels, modules_in, things_in, counted, reads_freely}
 use Rattle.gb_labels_laws.specs.Related.{ReadTypes, ReadIs}
@@ -37,13 +39,14 @@ use Rattle.gb_labels_laws.specs.Settings.{label_count, with_labels}
 use Rattle.gb_labels_laws.proofs.Stated.{ReadTys, IsReadIn, claim_reads, own_name, memories_for, values_for}
 use Rattle.gb_labels_laws.proofs.Choices.{choice_is, counted_above, count_above, chosen_up_to, count_chosen, sizes_apart}
 use Rattle.gb_labels_laws.proofs.Settings.{label_values, label_size, label_inhabited}
-use Rattle.gb_labels_laws.proofs.Listing.{IsShorter, claim_listed, claim_read, own_longer}
+use Rattle.gb_labels_laws.proofs.Listing.{IsShorter, claim_listed, claim_read, each, own_longer}
+use Rattle.gb_labels_laws.proofs.LabelsApart.{all_unnamed, excluded_reads, labels_apart}
 use Rattle.gb_labels_laws.proofs.Placed.{IsInside, claim_placed}
 use Rattle.gb_labels_laws.proofs.ReadStates as states
 
 -- the greatest numbers are above 0
-most_above : (hs : List Term) (t : Term) (most : Labels) → most_labels hs t ≡ Some most → AreAbove most
-most_above hs t most e = choose (list_all reads_freely hs && reads_freely t) e
+most_above : (es : Exclusions) (hs : List Term) (t : Term) (most : Labels) → most_labels es hs t ≡ Some most → AreAbove most
+most_above es hs t most e = choose (list_all (reads_freely es) hs && reads_freely es t) e
   where
     step : (o : _) → option_map (counted []) o ≡ Some most → AreAbove most
     step (Some ms) e = let z : counted [] ms ≡ most = cc in subst AreAbove z (counted_above [] ms tt)
@@ -63,14 +66,14 @@ all_claimed : (c : Context) (T : ReadTypes) (hs : List Term) → AllByRecursion 
 all_claimed c T [] w v r = tt
 all_claimed c T (h ∷ hs) w v r = (record { typed = erased_typed c h w.0.typed; truth = w.0.truth; of_values = v.0; reads = r.0 }, all_claimed c T hs w.1 v.1 r.1)
 
-module _ (b : Context) (g : Setting) (us : List Ty) (finite : AllByRecursion IsFinite us) (ns : List Frame) (fits : IsSettingOf (small b us ns) g) (apart : AreApart (erased b))
+module _ (b : Context) (g : Setting) (us : List Ty) (finite : AllByRecursion IsFinite us) (ns : List Frame) (fits : IsSettingOf (small b us ns) g) (apart : AreApart (erased b)) (es : Exclusions) (kept : AreKeptApart es g.types)
     (i : Judge) (fair : IsFair g i) (T : ReadTypes) (hs : List Term) (t : Term) (forms : OfClaim (IsForm (small b us ns)) hs t) (of_values : OfClaim IsOfValues hs t)
-    (reads : OfClaim (Reads (λ r a. T r ≡ Some a)) hs t) (most : Labels) (counts : most_labels hs t ≡ Some most) where
+    (reads : OfClaim (Reads (λ r a. T r ≡ Some a)) hs t) (most : Labels) (counts : most_labels es hs t ≡ Some most) where
   abbrev rs : ReadTys
   rs = claim_reads hs t
 
   abbrev own : Name
-  own = own_name rs
+  own = own_name (excluded_reads es ++ rs)
 
   abbrev num : Name → ℕ
   num = label_count g.types most
@@ -82,14 +85,22 @@ module _ (b : Context) (g : Setting) (us : List Ty) (finite : AllByRecursion IsF
   abbrev pub k : Judge
   k = trying h
 
+  -- the name is longer than those of what restrictions exclude and of what is read
+  shorter : AllByRecursion (λ q. IsShorter own q.0) (excluded_reads es) × AllByRecursion (λ q. IsShorter own q.0) rs
+  shorter = each (λ q. IsShorter own q.0) (excluded_reads es) rs (own_longer (excluded_reads es ++ rs))
+
   inhabited : IsInhabited g.types
   inhabited = fits.types.inhabited
 
   above : AreAbove most
-  above = most_above hs t most counts
+  above = most_above es hs t most counts
 
   pub inhabited_there : IsInhabited h.types
   inhabited_there = label_inhabited own num g.types inhabited (count_above g.types inhabited most above)
+
+  -- variables that don't clash are kept apart there
+  pub right_apart : AreKeptApart es h.types
+  right_apart = labels_apart h.types own (λ a. (num a, refl)) es (all_unnamed own es shorter.0)
 
   -- the numbers of labels are a choice
   pub choice : (n : ℕ) × (n < choices most) × (choice_at most n ≡ chosen g.types most)
@@ -105,7 +116,7 @@ module _ (b : Context) (g : Setting) (us : List Ty) (finite : AllByRecursion IsF
   module _ (s : State) (values_there : HasReadValues g T s) where
     pub model : IsModelled g (speaking g i) s h (speaking h k) hs t
     model =
-        small_model (erased (small b us ns)) g h fits.types (record { sizes = refl; inhabited = inhabited_there; left_once = fits.once; right_once = λ a. (refl, tt); operators = λ n. (refl, refl) }) apart refl (speaking g i) (speaking h k) (fair_says g i fair) (fair_says h k (is_fair h)) T hs t
+        small_model es (erased (small b us ns)) g h fits.types (record { sizes = refl; inhabited = inhabited_there; left_once = fits.once; right_once = λ a. (refl, tt); operators = λ n. (refl, refl); left_apart = kept; right_apart = right_apart }) apart refl (speaking g i) (speaking h k) (fair_says g i fair) (fair_says h k (is_fair h)) T hs t
         (all_claimed (small b us ns) T hs forms.0 of_values.0 reads.0, record { typed = erased_typed (small b us ns) t forms.1.typed; truth = forms.1.truth; of_values = of_values.1; reads = reads.1 }) most counts have_labels s values_there
 
     -- values for the variables, and memories
@@ -147,4 +158,4 @@ module _ (b : Context) (g : Setting) (us : List Ty) (finite : AllByRecursion IsF
     as_true =
         model.truths (context vs ms)
         (claim_read _ hs t (states.all_given h inhabited_there model.labels own (λ a. (num a, refl)) us (length ns) rs
-        (known rs (claim_listed _ hs t (claim_placed us ns (small b us ns) inside hs t (all_typed hs forms.0, forms.1.typed) of_values)) (own_longer rs)) (claim_listed _ hs t model.values)))
+        (known rs (claim_listed _ hs t (claim_placed us ns (small b us ns) inside hs t (all_typed hs forms.0, forms.1.typed) of_values)) shorter.1) (claim_listed _ hs t model.values)))

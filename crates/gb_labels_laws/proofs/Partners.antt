@@ -12,8 +12,9 @@ use Rattle.gb_meaning.specs.Memory.{Memory}
 use Rattle.gb_holds.specs.Programs.{AreOnce}
 use Rattle.gb_laws.specs.Finite.{IsFinite, AreVariables, IsInhabited}
 use Rattle.gb_laws.proofs.Sizes.{finite_sized}
+use Rattle.gb_walk.specs.Clash.{Exclusions}
 use Rattle.gb_reads.specs.Reads.{Vars, are_free}
-use Rattle.gb_reads.specs.Memories.{AreOf, AreGlobless, IsReadable, AreReadable, HaveValues, read_all}
+use Rattle.gb_reads.specs.Memories.{AreKeptApart, AreOf, AreGlobless, IsReadable, AreReadable, HaveValues, read_all}
 use Rattle.gb_reads.proofs.Memories.{of_types, exist}
 use Rattle.gb_labels.specs.Things.{modules_of}
 use Rattle.gb_labels_laws.specs.Pairs.{Pairs, Pairing}
@@ -127,11 +128,11 @@ module _ (t u : Types) (same : t.size ≡ u.size) where
     pub room : HasRoom t u pairing.pairs ns
 
   module _ (left : IsInhabited t) (right : IsInhabited u) (left_once : (a : Name) → AreOnce (t.footprint (named a))) (right_once : (a : Name) → AreOnce (u.footprint (named a)))
-      (xs : Vars) (free : are_free xs ≡ true) (counted : AreCountedTypes xs) (typed : HaveTypes xs) where
+      (es : Exclusions) (right_apart : AreKeptApart es u) (xs : Vars) (free : are_free es xs ≡ true) (counted : AreCountedTypes xs) (typed : HaveTypes xs) where
     pub partner : (P : Pairing t u) (m : Memory) (ns : List Name) → HasRoom t u P.pairs (modules_read xs ++ ns) → Partner P xs m ns
     partner P m ns room =
         let n = extend_all xs counted P ns (read_all t m xs) (of_types t m xs (are_readable t left left_once xs typed) (have_values t left left_once xs typed)) room in
-        let e = exist u xs n.values free (are_readable u right right_once xs typed) (second_of n.pairing xs (read_all t m xs) n.values n.related) in
+        let e = exist es u right_apart xs n.values free (are_readable u right right_once xs typed) (second_of n.pairing xs (read_all t m xs) n.values n.related) in
         record {
           memory = e.0;
           pairing = n.pairing;
@@ -142,10 +143,10 @@ module _ (t u : Types) (same : t.size ≡ u.size) where
 
 module _ (t u : Types) (same : t.size ≡ u.size) (left : IsInhabited t) (right : IsInhabited u)
     (left_once : (a : Name) → AreOnce (t.footprint (named a))) (right_once : (a : Name) → AreOnce (u.footprint (named a)))
-    (xs : Vars) (free : are_free xs ≡ true) (counted : AreCountedTypes xs) (typed : HaveTypes xs) where
+    (es : Exclusions) (left_apart : AreKeptApart es t) (xs : Vars) (free : are_free es xs ≡ true) (counted : AreCountedTypes xs) (typed : HaveTypes xs) where
   pub copartner : (P : Pairing t u) (n : Memory) (ns : List Name) → HasRoom t u P.pairs (modules_read xs ++ ns) → Copartner t u same P xs n ns
   copartner P n ns room =
-      let m = partner u t (sym same) right left right_once left_once xs free counted typed (flipped t u same P) n ns (flip_room t u same P (modules_read xs ++ ns) room) in
+      let m = partner u t (sym same) right left right_once left_once es left_apart xs free counted typed (flipped t u same P) n ns (flip_room t u same P (modules_read xs ++ ns) room) in
       record {
         memory = m.memory;
         pairing = flipped u t (sym same) m.pairing;

@@ -16,6 +16,7 @@ use Rattle.gb_reads.specs.Reads.{Vars}
 use Rattle.gb_labels_laws.specs.Pairs.{Pairing}
 use Rattle.gb_labels_laws.specs.Related.{ReadTypes, MeaningRelated, StateRelated}
 use Rattle.gb_labels_laws.specs.Needs.{HasFirsts, HasRoom, quantified, all_quantified, opened, all_opened}
+use Rattle.gb_walk.specs.Clash.{Exclusions}
 use Rattle.gb_labels_laws.specs.Model.{AreAlike}
 use Rattle.gb_labels_laws.proofs.Meanings.{meaning_of, meaning_equal}
 use Rattle.gb_labels_laws.proofs.Room.{room_first, room_last}
@@ -88,7 +89,7 @@ module _ (g h : Setting) (T : ReadTypes) where
   )
 
   -- the meanings of arguments alone
-  module _ (alike : AreAlike g h) (P : Pairing g.types h.types) (s r : State) where
+  module _ {es : Exclusions} (alike : AreAlike es g h) (P : Pairing g.types h.types) (s r : State) where
     pub are_of : (xs : List Sides) → ArgumentsRelated g.types h.types P.pairs (both s r xs) → AreOf g.types (tys xs) (map (λ x. x.meaning s) (left_parts xs))
     are_of [] k = tt
     are_of (x ∷ xs) k = (meaning_of g.types h.types alike.sizes P x.ty (x.left.meaning s) (x.right.meaning r) k.0.0, are_of xs k.1)

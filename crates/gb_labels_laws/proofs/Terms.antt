@@ -29,6 +29,7 @@ use Rattle.gb_laws.specs.Typing.{OperatorType, Binder, Context, IsLiteral, AreLi
 use Rattle.gb_laws.specs.Typing as typing
 use Rattle.gb_laws.specs.Typing.Binder.{value, index, memory}
 use Rattle.gb_laws.proofs.Drawn.{typed_distribution}
+use Rattle.gb_walk.specs.Clash.{Exclusions}
 use Rattle.gb_reads.specs.Reads.{Vars, are_free}
 use Rattle.gb_labels.specs.Things.{modules_of, reads_inside}
 use Rattle.gb_labels_laws.specs.Pairs.{Pairing}
@@ -60,7 +61,7 @@ says g j w p head.AllMemory n ts a = w.all p n ts a
 says g j w p head.SomeMemory n ts a = w.some p n ts a
 says g j w p _ n ts a = tt
 
-module _ (c : Context) (g h : Setting) (i : IsSettingOf c g) (alike : AreAlike g h) (apart : AreApart c) (T : ReadTypes) where
+module _ {es : Exclusions} (c : Context) (g h : Setting) (i : IsSettingOf c g) (alike : AreAlike es g h) (apart : AreApart c) (T : ReadTypes) where
   literal_related : (P : Pairing g.types h.types) (a : Ty) (v : Value) → IsLiteral a v → Related g.types h.types P.pairs a v v
   literal_related P a v k = related_itself g.types h.types alike.sizes P.pairs a (finite_globless a k.0) v (subst (λ z. z.has v ≡ true) (sym (values_finite g.types a k.0)) k.1)
 
@@ -173,7 +174,7 @@ module _ (c : Context) (g h : Setting) (i : IsSettingOf c g) (alike : AreAlike g
         (weights_in (x.left.meaning s)) (weights_in (x.right.meaning r))
         (weights_related g.types h.types P.pairs x.ty (x.left.meaning s) (x.right.meaning r) (w.0 P s r (one_first x y f) (one_room x y n) q))
 
-    module _ (vs : Vars) (typed : HaveTypes vs) (free : are_free vs ≡ true) (counted : AreCountedTypes vs) (x : Sides) (w : IsSide g h T (memory ∷ e.bound) (vs ∷ vss) x) (b : x.ty ≡ ty.Bool)
+    module _ (vs : Vars) (typed : HaveTypes vs) (free : are_free es vs ≡ true) (counted : AreCountedTypes vs) (x : Sides) (w : IsSide g h T (memory ∷ e.bound) (vs ∷ vss) x) (b : x.ty ≡ ty.Bool)
         (f : AreFirst x.opened) (n : IsRoom (modules_read vs ++ x.quantified)) where
       forth : (m : Memory) → (m' : Memory) × (truth (x.left.meaning (under s (bound_memory m))) ≡ truth (x.right.meaning (under r (bound_memory m'))))
       forth = memory_forth g h alike T e.bound vss x vs i.inhabited free counted typed w b P s r f n q
@@ -192,7 +193,7 @@ module _ (c : Context) (g h : Setting) (i : IsSettingOf c g) (alike : AreAlike g
           (λ d. let m = (u s).0 d in let m' = forth m.0 in (v r).1 (m'.0, sym m'.1 ∙ m.1)) (λ d. let m' = (v r).0 d in let m = back m'.0 in (u s).1 (m.0, m.1 ∙ m'.1))
 
     module _ (vs : Vars) (typed : HaveTypes vs) where
-      head_related : (d : Head) (a : Ty) (xs : List Sides) → AreSides g h T e.bound (inner e d (tys xs)).bound vss (inside d vs vss) xs → IsHead e d (tys xs) a → CountsAt T vss d vs a → Says j z d (left_parts xs) →
+      head_related : (d : Head) (a : Ty) (xs : List Sides) → AreSides g h T e.bound (inner e d (tys xs)).bound vss (inside d vs vss) xs → IsHead e d (tys xs) a → CountsAt es T vss d vs a → Says j z d (left_parts xs) →
           Says k z d (right_parts xs) → AreFirst (opened_at d a ++ opened_in xs) → IsRoom (quantified_at d vs ++ quantified_in xs) → Same a (at_head g j z d (left_parts xs) a s) (at_head h k z d (right_parts xs) a r)
       head_related (head.Lit v) a [] w l m u v' f n = literal_related P a v l
       head_related (head.Whole v) a [] w l m u v' f n = same_at ty.Int a (whole v) (whole v) (sym l) (tt, refl)
@@ -231,7 +232,7 @@ module _ (c : Context) (g h : Setting) (i : IsSettingOf c g) (alike : AreAlike g
 
   module _ (j k : Speaks) (sj : SaysOfMemories g j) (sk : SaysOfMemories h k) where
     mutual
-      pub term_related : (t : Term) (e : Context) (vss : List Vars) → e.operator ≡ c.operator → IsTyped e t → Counts T vss t → (P : Pairing g.types h.types) (s r : State) →
+      pub term_related : (t : Term) (e : Context) (vss : List Vars) → e.operator ≡ c.operator → IsTyped e t → Counts es T vss t → (P : Pairing g.types h.types) (s r : State) →
           HasFirsts g.types h.types P.pairs (opened t) → HasRoom g.types h.types P.pairs (quantified t) → StateRelated g h P.pairs T e.bound vss s r →
           MeaningRelated g.types h.types P.pairs (type_of t) (val g j t s) (val h k t r)
       term_related (Term' p (more_of-Head d end_of-Head) n ts a) e vss o w m P s r f b q =
@@ -248,7 +249,7 @@ module _ (c : Context) (g h : Setting) (i : IsSettingOf c g) (alike : AreAlike g
           (subst (λ y. HasFirsts g.types h.types P.pairs (opened_at d a ++ y)) (row_opened g h j k ts) f)
           (subst (λ y. HasRoom g.types h.types P.pairs (quantified_at d vs ++ y)) (row_quantified g h j k ts) b)))
 
-      row_related : {n : Count} (ts : Row_of-Term n) (e d : Context) (vss wss : List Vars) → e.operator ≡ c.operator → d.operator ≡ c.operator → AreTyped e d ts → AllCount T vss wss ts →
+      row_related : {n : Count} (ts : Row_of-Term n) (e d : Context) (vss wss : List Vars) → e.operator ≡ c.operator → d.operator ≡ c.operator → AreTyped e d ts → AllCount es T vss wss ts →
           AreSides g h T e.bound d.bound vss wss (row_sides g h j k ts)
       row_related end_of-Term e d vss wss o y w m = tt
       row_related (more_of-Term t end_of-Term) e d vss wss o y w m = (term_related t d wss y w m, denominator_same g h alike T t wss m, λ l. (typed_distribution c g i t d y w l).positive)

@@ -26,17 +26,22 @@ use Rattle.gb_typing.specs.Agreement.{SameOperator}
 use Rattle.gb_typing.specs.Naming.{EachGlobAmong}
 use Rattle.gb_laws.specs.Finite.{IsInhabited}
 use Rattle.gb_laws.specs.Typing.{OperatorType, Context, IsTyped}
+use Rattle.gb_walk.specs.Clash.{Exclusions}
+use Rattle.gb_reads.specs.Memories.{AreKeptApart}
 use Rattle.gb_labels.specs.Labels.{Labels, count_of}
 use Rattle.gb_labels_laws.specs.Related.{ReadTypes, ReadIs}
 use mathlib.Core.Former.{arity, this}
 
--- Settings that differ in the modules' globals alone, each of which stands once in its footprint; types have values in the second one.
-pub record AreAlike (g h : Setting) : Type 0 where
+-- Settings that differ in the modules' globals alone, each of which stands once in its footprint; types have values in the second one. In
+-- both variables that don't clash are kept apart.
+pub record AreAlike (es : Exclusions) (g h : Setting) : Type 0 where
   pub sizes : g.types.size ≡ h.types.size
   pub inhabited : IsInhabited h.types
   pub left_once : (a : Name) → AreOnce (g.types.footprint (named a))
   pub right_once : (a : Name) → AreOnce (h.types.footprint (named a))
   pub operators : (n : Name) → SameOperator g h n
+  pub left_apart : AreKeptApart es g.types
+  pub right_apart : AreKeptApart es h.types
 
 -- the operators' types speak of no modules' globals
 abbrev pub AreApart : Context → Type 0

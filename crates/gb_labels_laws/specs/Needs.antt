@@ -15,6 +15,7 @@ use Rattle.gb_meaning.specs.Names.{Name}
 use Rattle.gb_meaning.specs.Values.{Types, values, first}
 use Rattle.gb_holds.specs.Globs.{IsGlobless}
 use Rattle.gb_walk.specs.Layers.{is_binder}
+use Rattle.gb_walk.specs.Clash.{Exclusions}
 use Rattle.gb_reads.specs.Reads.{Vars, are_free, is_among}
 use Rattle.gb_labels.specs.Things.{modules_of, reads_inside}
 use Rattle.gb_labels_laws.specs.Pairs.{Pairs, IsPair}
@@ -91,25 +92,25 @@ IsReadAt T vss (Program x (Bound i)) a = is_among (get_or vss i []) x a ≡ true
 IsReadAt T vss r a = T r ≡ Some a
 
 -- The heads that speak of values alone, at types whose parts are counted; of quantified memories, variables that don't clash are read.
-abbrev pub CountsAt : ReadTypes → List Vars → Head → Vars → Ty → Type 0
-CountsAt T vss (head.Read r) vs a = IsReadAt T vss r a
-CountsAt T vss (head.Builtin o) vs a = IsMadeOf o a
-CountsAt T vss (head.All b) vs a = IsCountedType b
-CountsAt T vss (head.Some b) vs a = IsCountedType b
-CountsAt T vss head.AllMemory vs a = (are_free vs ≡ true) × AreCountedTypes vs
-CountsAt T vss head.SomeMemory vs a = (are_free vs ≡ true) × AreCountedTypes vs
-CountsAt T vss h vs a = IsOfValuesAt h
+abbrev pub CountsAt : Exclusions → ReadTypes → List Vars → Head → Vars → Ty → Type 0
+CountsAt es T vss (head.Read r) vs a = IsReadAt T vss r a
+CountsAt es T vss (head.Builtin o) vs a = IsMadeOf o a
+CountsAt es T vss (head.All b) vs a = IsCountedType b
+CountsAt es T vss (head.Some b) vs a = IsCountedType b
+CountsAt es T vss head.AllMemory vs a = (are_free es vs ≡ true) × AreCountedTypes vs
+CountsAt es T vss head.SomeMemory vs a = (are_free es vs ≡ true) × AreCountedTypes vs
+CountsAt es T vss h vs a = IsOfValuesAt h
 
 -- what is read of bound memories in a head's last argument
 abbrev pub inside : Head → Vars → List Vars → List Vars
 inside h vs vss = if is_binder h then vs ∷ vss else vss
 
 abbrev mutual
-  pub Counts : ReadTypes → List Vars → Term → Type 0
-  Counts T vss (Term' p (more_of-Head h end_of-Head) n ts a) = CountsAt T vss h (reads_inside h ts) a × AllCount T vss (inside h (reads_inside h ts) vss) ts
+  pub Counts : Exclusions → ReadTypes → List Vars → Term → Type 0
+  Counts es T vss (Term' p (more_of-Head h end_of-Head) n ts a) = CountsAt es T vss h (reads_inside h ts) a × AllCount es T vss (inside h (reads_inside h ts) vss) ts
 
   -- arguments, the last of which may stand in a binder
-  pub AllCount : {n : _} → ReadTypes → List Vars → List Vars → Row_of-Term n → Type 0
-  AllCount T vss wss end_of-Term = Unit {0}
-  AllCount T vss wss (more_of-Term t end_of-Term) = Counts T wss t
-  AllCount T vss wss (more_of-Term t (more_of-Term u ts)) = Counts T vss t × AllCount T vss wss (more_of-Term u ts)
+  pub AllCount : {n : _} → Exclusions → ReadTypes → List Vars → List Vars → Row_of-Term n → Type 0
+  AllCount es T vss wss end_of-Term = Unit {0}
+  AllCount es T vss wss (more_of-Term t end_of-Term) = Counts es T wss t
+  AllCount es T vss wss (more_of-Term t (more_of-Term u ts)) = Counts es T vss t × AllCount es T vss wss (more_of-Term u ts)

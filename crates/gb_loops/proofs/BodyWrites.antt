@@ -4,24 +4,24 @@ use Rattle.std.specs.List.{AllByRecursion}
 use Rattle.std.specs.Option.{option_map}
 use Rattle.std.proofs.lemmas.Option.{same_Some, none-some}
 use Rattle.gb_core.specs.declared.var.Var.{Var}
-use Rattle.gb_terms.specs.declared.decl.Proc.{Proc}
 use Rattle.gb_terms.specs.declared.module.ProcRef.{ProcRef}
 use Rattle.gb_terms.specs.declared.term.Head.TheVariants.{Assign, Sample, Call', If', While'}
 use Rattle.gb_terms.specs.declared.term.Instr.{Instr, Row_of-Instr, end_of-Instr, more_of-Instr}
 use Rattle.gb_terms.specs.declared.term.Term.{Term}
 use Rattle.gb_meaning.specs.Commands.{called, program_of, statement, statements}
 use Rattle.gb_meaning.specs.Program.{Program, Routine}
-use Rattle.gb_meaning.specs.Program.Routine.{routine}
 use Rattle.gb_meaning.specs.Setting.{Setting}
 use Rattle.gb_laws.specs.Cells.{Key}
 use Rattle.gb_laws.specs.Cells.Key.{global, local}
 use Rattle.gb_laws.specs.Writes.{IfGlobal, Spares, Unwritten, UnwrittenBy}
-use Rattle.gb_goal.specs.Scope.{Declarations, procedure_of}
+use Rattle.gb_goal.specs.Scope.{Declarations}
 use Rattle.gb_prog.specs.Writes.{WritesWithin}
 use Rattle.gb_mods.specs.Called.{all_reached, row_calls, statement_calls, calls}
+use Rattle.gb_mods.specs.Meant.{meant_by}
 use Rattle.gb_mods.specs.Order.{joined}
 use Rattle.gb_mods.specs.Written.{row_targets, statement_targets, targets, written_if}
 use Rattle.gb_mods.proofs.Closed.{IsIn}
+use Rattle.gb_adversaries.specs.Means.{Means}
 use Rattle.gb_call.proofs.Unwritten.{reached_left, spares_append, spares_joined}
 use Rattle.gb_forms.specs.Loops.{written}
 use mathlib.Core.Former.{Count}
@@ -80,10 +80,10 @@ module _ (g : Setting) (k : Key) where
       let w = left_append (statement_calls i) (calls is) h in
       statement_left i (statements g is) z.0 w.0 (statements_left is z.1 w.1)
 
--- declared procedures are those of the setting
-module _ (g : Setting) (ds : Declarations) (linked : (p : ProcRef) (a : Proc) → procedure_of ds p ≡ Some a → g.procedure p ≡ Some (routine a.params a.locals (statements g a.body.list) a.value)) where
+-- references mean what they stand for
+module _ (g : Setting) (ds : Declarations) (means : (p : ProcRef) → Means g p (meant_by ds p)) where
   callee_left : (k : Key) (U : List Var) → Spares g.types U k → (ps : List ProcRef) → written_if ds (all_reached ds ps) ≡ Some U → (p : ProcRef) → IsIn ps p → IsLeft g k p
-  callee_left (global y) U s ps e p i r f = reached_left g y ds linked ps U e s p i r f
+  callee_left (global y) U s ps e p i r f = reached_left g y ds means ps U e s p i r f
   callee_left (local y) U s ps e p i r f = tt
 
   each_left : (k : Key) (ps : List ProcRef) → ((p : ProcRef) → IsIn ps p → IsLeft g k p) → AreLeft g k ps

@@ -31,7 +31,9 @@ use Rattle.gb_goal.specs.declared.sequent.Sequent.{Sequent}
 use Rattle.gb_holds.specs.Declared.{declared}
 use Rattle.gb_typing.specs.Context.{Context}
 use Rattle.gb_typing.specs.Fits.{IsSettingOf, IsStateOf}
-use Rattle.gb_typing.specs.Forms.{and_form, equal_form, located, not_form}
+use Rattle.gb_mods.specs.Exclusions.{exclusions}
+use Rattle.gb_adversaries.proofs.KeptOff.{kept_off}
+use Rattle.gb_typing.specs.Forms.{IsKeptOff, and_form, equal_form, located, not_form}
 use Rattle.gb_typing.specs.Goals.{IsGoalOver}
 use Rattle.gb_typing.specs.Meaning.{run, denominator}
 use Rattle.gb_typing.specs.Programs.{HaveVariableTypes, IsBody}
@@ -150,12 +152,12 @@ module _ (ds : Declarations) (scoped : IsTypedScope (declared ds)) (t : Sequent)
             (located_value c rs l.guard z.guard g (speaking g j) (between s m n) side.Right tt ∙ right_value)).0 h in
             ap truth left_value ∙ ap (λ u. truth (finite u)) i ∙ sym (ap truth right_value)
 
-      module _ (T U : List Var) (known : written ds k.body.list ≡ Some T) (found : written ds l.body.list ≡ Some U) (clear : clashing_both T U f ≡ None) where
-        left_covered : IsCovered side.Left f T
-        left_covered = let z = end_form in covered d side.Left tt f z.typed T (none_clashing_both f T U clear).0
+      module _ (T U : List Var) (known : written ds k.body.list ≡ Some T) (found : written ds l.body.list ≡ Some U) (clear : clashing_both (exclusions ds) T U f ≡ None) where
+        left_covered : IsCovered (exclusions ds) side.Left f T
+        left_covered = let z = end_form in covered (exclusions ds) d side.Left tt f z.typed T (none_clashing_both (exclusions ds) f T U clear).0
 
-        right_covered : IsCovered side.Right f U
-        right_covered = let z = end_form in covered d side.Right tt f z.typed U (none_clashing_both f T U clear).1
+        right_covered : IsCovered (exclusions ds) side.Right f U
+        right_covered = let z = end_form in covered (exclusions ds) d side.Right tt f z.typed U (none_clashing_both (exclusions ds) f T U clear).1
 
         abbrev P : Readable
         P r x = (let S = left_covered in S.readable r x) && (let S = right_covered in S.readable r x)
@@ -166,18 +168,18 @@ module _ (ds : Declarations) (scoped : IsTypedScope (declared ds)) (t : Sequent)
             let R = right_covered in
             subst (λ (K : Uses). IsWithin K f) (λ i u. in_both S.readable R.readable u i) (within_both (reading S.readable) (reading R.readable) f S.within R.within)
 
-        module _ (g : Setting) where
+        module _ (g : Setting) (off : IsKeptOff (exclusions ds) g) where
           covers_left : Covers g (P side.Left) T (read_among side.Left f T)
-          covers_left x z = covers g side.Left f T left_covered x (and_parts _ _ z).0
+          covers_left x z = covers g (exclusions ds) off side.Left f T left_covered x (and_parts _ _ z).0
 
           covers_right : Covers g (P side.Right) U (read_among side.Right f U)
-          covers_right x z = covers g side.Right f U right_covered x (and_parts _ _ z).1
+          covers_right x z = covers g (exclusions ds) off side.Right f U right_covered x (and_parts _ _ z).1
 
           alone_both : AreAlone g P (read_both f T U)
           alone_both =
               all_append _ (read_in side.Left f T) (read_in side.Right f U)
-              (fewer_read g P (let S = left_covered in S.readable) (λ r x z. (and_parts _ _ z).0) (read_in side.Left f T) (are_alone g side.Left f T left_covered))
-              (fewer_read g P (let S = right_covered in S.readable) (λ r x z. (and_parts _ _ z).1) (read_in side.Right f U) (are_alone g side.Right f U right_covered))
+              (fewer_read g P (let S = left_covered in S.readable) (λ r x z. (and_parts _ _ z).0) (read_in side.Left f T) (are_alone g (exclusions ds) off side.Left f T left_covered))
+              (fewer_read g P (let S = right_covered in S.readable) (λ r x z. (and_parts _ _ z).1) (read_in side.Right f U) (are_alone g (exclusions ds) off side.Right f U right_covered))
 
         behind : (g : Setting) (fits : IsSettingOf c g) (over : IsSettingOver (declared ds) g) → LoopsEnd g (equiv (body is) (body js) p q) → (j : Judge) (fair : IsFair g j) (s : State) (fit : IsStateOf c g s) →
             ((m n : Memory) → IsTrueUnder g j (turning_both v k l) (between s m n) →
@@ -185,6 +187,7 @@ module _ (ds : Declarations) (scoped : IsTypedScope (declared ds)) (t : Sequent)
             (x z : Memory) → IsTrueUnder g j (before_both v k l q T U) (between s x z) →
             Coupling (λ x z. IsTrueUnder g j q (between s x z)) (run g s (statement_of k ∷ []) x) (denominator g (statement_of k ∷ [])) (run g s (statement_of l ∷ []) z) (denominator g (statement_of l ∷ []))
         behind g fits over ends j fair s fit turn x z h =
+            let off = kept_off ds scoped g over in
             let start = and_use g j (in_step v k l) (all_values (read_both f T U) f) (between s x z) h in
             coupling_weakening
             {Q = λ m n. (IsTrueUnder g j (in_step v k l) (between s m n) × (is_true g s k.guard m ≡ false) × (is_true g s l.guard n ≡ false)) × DifferIn g.types T x m × DifferIn g.types U z n}
@@ -192,7 +195,7 @@ module _ (ds : Declarations) (scoped : IsTypedScope (declared ds)) (t : Sequent)
             (λ m n i.
             implies_use g j (and_form (and_form v (not_form e1)) (not_form e2)) q (between s m n)
             (ends_in_two c outer c.own (Some ls) (Some rs) f end_form g fits j fair P reads_within (between s x z) (state_between c g s fit c.own (Some ls) (Some rs) x z) T U (read_among side.Left f T) (read_among side.Right f U)
-            (covers_left g) (covers_right g) (located_both T U) (alone_both g) start.1 m n i.1 i.2)
+            (covers_left g off) (covers_right g off) (located_both T U) (alone_both g off) start.1 m n i.1 i.2)
             (and_make g j (and_form v (not_form e1)) (not_form e2) (between s m n)
             (and_make g j v (not_form e1) (between s m n) (and_use g j v (equal_form e1 e2) (between s m n) i.0.0).0 (not_make g j e1 (between s m n) (left_is g fits j s m n ∙ i.0.1)))
             (not_make g j e2 (between s m n) (right_is g fits j s m n ∙ i.0.2))))
@@ -219,12 +222,12 @@ module _ (ds : Declarations) (scoped : IsTypedScope (declared ds)) (t : Sequent)
               ends = λ g over e. ((turn_ends g is k last e.0, turn_ends g js l next e.1), ((front_ends g is k last e.0, front_ends g js l next e.1), tt));
             }
 
-      by_clash : (Gs : List Goal) (T U : List Var) → written ds k.body.list ≡ Some T → written ds l.body.list ≡ Some U → (r : Option Var) → clashing_both T U f ≡ r → unless_clash r (given (both_goals v p q k l T U)) ≡ given Gs → Sound Gs
+      by_clash : (Gs : List Goal) (T U : List Var) → written ds k.body.list ≡ Some T → written ds l.body.list ≡ Some U → (r : Option Var) → clashing_both (exclusions ds) T U f ≡ r → unless_clash r (given (both_goals v p q k l T U)) ≡ given Gs → Sound Gs
       by_clash Gs T U known found (Some x) z e = refused_given (SideCondition x) Gs e
       by_clash Gs T U known found None z e = subst Sound (same_given (both_goals v p q k l T U) Gs e) (goals_sound T U known found z)
 
-      by_found : (Gs : List Goal) (x z : Option (List Var)) → written ds k.body.list ≡ x → written ds l.body.list ≡ z → both_written v p q k l x z ≡ given Gs → Sound Gs
-      by_found Gs (Some T) (Some U) known found e = by_clash Gs T U known found (clashing_both T U f) refl e
+      by_found : (Gs : List Goal) (x z : Option (List Var)) → written ds k.body.list ≡ x → written ds l.body.list ≡ z → both_written (exclusions ds) v p q k l x z ≡ given Gs → Sound Gs
+      by_found Gs (Some T) (Some U) known found e = by_clash Gs T U known found (clashing_both (exclusions ds) T U f) refl e
       by_found Gs None z known found e = refused_given Shape Gs e
       by_found Gs (Some T) None known found e = refused_given Shape Gs e
 

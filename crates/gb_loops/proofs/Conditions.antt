@@ -10,12 +10,12 @@ use Rattle.gb_terms.specs.declared.op.Side.TheVariants.{Left, Right}
 use Rattle.gb_terms.specs.declared.term.Term.{Term}
 use Rattle.gb_terms.specs.Equal.{var_eq}
 use Rattle.gb_terms.proofs.Equality.{side_eq-Decides, var_eq-Decides}
-use Rattle.gb_walk.specs.Clash.{first_clash, variables_read}
+use Rattle.gb_walk.specs.Clash.{Exclusions, first_clash, variables_read}
 use Rattle.gb_meaning.specs.Setting.{Setting}
 use Rattle.gb_laws.specs.Uses.{Uses, IsWithin}
 use Rattle.gb_laws.specs.Written.{IsSide}
 use Rattle.gb_typing.specs.Context.{Context}
-use Rattle.gb_typing.specs.Forms.{IsAlone}
+use Rattle.gb_typing.specs.Forms.{IsAlone, IsKeptOff}
 use Rattle.gb_typing.specs.Puts.{Readable, reading}
 use Rattle.gb_typing.specs.Typing.{IsTyped}
 use Rattle.gb_typing.proofs.Both.{within_both}
@@ -34,22 +34,22 @@ append_nothing : (xs : List Var) → xs ++ [] ≡ xs
 append_nothing [] = refl
 append_nothing (x ∷ xs) = ap (λ l. x ∷ l) (append_nothing xs)
 
-no_clash : (r : Side) (f : Term) (xs : List Var) → AllFalse (is_clashing r f) xs → NoClash r f xs
-no_clash r f [] h = tt
-no_clash r f (x ∷ xs) h = (by_option (first_clash r x f) h.0, no_clash r f xs h.1)
+no_clash : (es : Exclusions) (r : Side) (f : Term) (xs : List Var) → AllFalse (is_clashing es r f) xs → NoClash es r f xs
+no_clash es r f [] h = tt
+no_clash es r f (x ∷ xs) h = (by_option (first_clash es r x f) h.0, no_clash es r f xs h.1)
   where
     by_option : (o : Option Var) → is_some o ≡ false → o ≡ None
     by_option None e = refl
     by_option (Some y) e = absurd (false≢true (sym e))
 
 -- where no clash is found there is none
-pub none_clashing : (r : Side) (f : Term) (U : List Var) → clashing r U f ≡ None → NoClash r f U
-none_clashing r f U e = no_clash r f U (nothing_filtered (is_clashing r f) U [] (append_nothing _ ∙ nothing_least _ e)).0
+pub none_clashing : (es : Exclusions) (r : Side) (f : Term) (U : List Var) → clashing es r U f ≡ None → NoClash es r f U
+none_clashing es r f U e = no_clash es r f U (nothing_filtered (is_clashing es r f) U [] (append_nothing _ ∙ nothing_least _ e)).0
 
-pub none_clashing_both : (f : Term) (T U : List Var) → clashing_both T U f ≡ None → NoClash Left f T × NoClash Right f U
-none_clashing_both f T U e =
-    let z = nothing_filtered (is_clashing Left f) T (filter (is_clashing Right f) U) (nothing_least _ e) in
-    (no_clash Left f T z.0, no_clash Right f U (nothing_filtered (is_clashing Right f) U [] (append_nothing _ ∙ z.1)).0)
+pub none_clashing_both : (es : Exclusions) (f : Term) (T U : List Var) → clashing_both es T U f ≡ None → NoClash es Left f T × NoClash es Right f U
+none_clashing_both es f T U e =
+    let z = nothing_filtered (is_clashing es Left f) T (filter (is_clashing es Right f) U) (nothing_least _ e) in
+    (no_clash es Left f T z.0, no_clash es Right f U (nothing_filtered (is_clashing es Right f) U [] (append_nothing _ ∙ z.1)).0)
 
 not_true : (b : Bool) → not b ≡ true → b ≡ false
 not_true true e = absurd (false≢true e)
@@ -89,26 +89,26 @@ module _ (r : Side) (f : Term) where
         by_tests y e true false p q = absurd (false≢true (sym q ∙ read_found U y p e))
 
 -- What a form may read through a memory: variables that are covered, and alone.
-pub record IsCovered (r : Side) (f : Term) (U : List Var) : Type 0 where
+pub record IsCovered (es : Exclusions) (r : Side) (f : Term) (U : List Var) : Type 0 where
   pub readable : Readable
   pub within : IsWithin (reading readable) f
-  pub alone : (g : Setting) → EachAlone g (readable r) U
+  pub alone : (g : Setting) → IsKeptOff es g → EachAlone g (readable r) U
   pub spared : (y : Var) → readable r y ≡ true → (is_among U y && not (is_among (variables (read_among r f U)) y)) ≡ false
 
-pub covered : (c : Context) (r : Side) → IsSide r → (f : Term) → IsTyped c f → (U : List Var) → NoClash r f U → IsCovered r f U
-covered c r i f w U e =
-    let one = all_clear c f w r i U e in
+pub covered : (es : Exclusions) (c : Context) (r : Side) → IsSide r → (f : Term) → IsTyped c f → (U : List Var) → NoClash es r f U → IsCovered es r f U
+covered es c r i f w U e =
+    let one = all_clear es c f w r i U e in
     let T : Var → Bool = λ y. is_among U y && not (is_among (variables (read_among r f U)) y) in
     let P : Readable = one.0 in
     let Q : Readable = spared_variables r i T in
     record {
       readable = λ s y. P s y && Q s y;
       within = subst (λ (K : Uses). IsWithin K f) (λ k u. in_both P Q u k) (within_both (reading P) (reading Q) f one.1 (spared_within r i T c f w (none_left_out r f U i)));
-      alone = λ g. fewer g (λ y. P r y && Q r y) (P r) (λ y p. (and_parts (P r y) (Q r y) p).0) U (one.2 g);
+      alone = λ g o. fewer g (λ y. P r y && Q r y) (P r) (λ y p. (and_parts (P r y) (Q r y) p).0) U (one.2 g o);
       spared = λ y p. not_true (T y) (subst (λ b. not (b && T y) ≡ true) ((side_eq-Decides r r).1 refl) (and_parts (P r y) (Q r y) p).1);
     }
 
-module _ (g : Setting) (r : Side) (f : Term) (U : List Var) (S : IsCovered r f U) where
+module _ (g : Setting) (es : Exclusions) (off : IsKeptOff es g) (r : Side) (f : Term) (U : List Var) (S : IsCovered es r f U) where
   abbrev P : Var → Bool
   P = S.readable r
 
@@ -122,7 +122,7 @@ module _ (g : Setting) (r : Side) (f : Term) (U : List Var) (S : IsCovered r f U
     where
       by_test : (b : Bool) → is_among U y ≡ b → IsApart g U y ⊎ IsOneOf y (read_among r f U)
       by_test true e = inr (one_of (read_among r f U) y (also_true (is_among U y) (is_among (variables (read_among r f U)) y) (S.spared y p) e))
-      by_test false e = inl (apart_from g P U y p e (S.alone g))
+      by_test false e = inl (apart_from g P U y p e (S.alone g off))
 
   alone_among : (V : List Var) → EachAlone g P V → AllByRecursion (λ w. IsAlone g w.1.variable P) (in_memory r (read_among r f V))
   alone_among [] h = tt
@@ -137,4 +137,4 @@ module _ (g : Setting) (r : Side) (f : Term) (U : List Var) (S : IsCovered r f U
   located_alone (w ∷ W) h = (h.0, located_alone W h.1)
 
   pub are_alone : AreAlone g S.readable (read_in r f U)
-  are_alone = located_alone (read_among r f U) (alone_among U (S.alone g))
+  are_alone = located_alone (read_among r f U) (alone_among U (S.alone g off))

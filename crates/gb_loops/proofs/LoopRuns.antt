@@ -1,19 +1,16 @@
 -- Runs of a loop at the end of a body.
-use Rattle.std.proofs.Common.{◌≡◌, List, [], ◌∷◌, Some, sym, subst}
+use Rattle.std.proofs.Common.{◌≡◌, List, [], ◌∷◌, Some, subst}
 use Rattle.gb_coupling.specs.WeightedList.{Every}
 use Rattle.gb_core.specs.declared.var.Var.{Var}
-use Rattle.gb_terms.specs.declared.decl.Proc.{Proc}
 use Rattle.gb_terms.specs.declared.decl.TypedName.{TypedName}
-use Rattle.gb_terms.specs.declared.module.ProcRef.{ProcRef}
 use Rattle.gb_terms.specs.declared.term.Instr.{Instr}
 use Rattle.gb_meaning.specs.Commands.{statements}
 use Rattle.gb_meaning.specs.Loops.{IsGood}
 use Rattle.gb_meaning.specs.Memory.{Memory}
-use Rattle.gb_meaning.specs.Program.Routine.{routine}
 use Rattle.gb_meaning.specs.Setting.{Setting}
 use Rattle.gb_meaning.specs.Sound.{IsSound}
 use Rattle.gb_meaning.specs.State.{State, closed}
-use Rattle.gb_goal.specs.Scope.{Declarations, procedure_of}
+use Rattle.gb_goal.specs.Scope.{Declarations}
 use Rattle.gb_holds.specs.Declared.{declared}
 use Rattle.gb_holds.specs.Holds.{LoopsAreGood}
 use Rattle.gb_typing.specs.Context.{Context}
@@ -22,7 +19,7 @@ use Rattle.gb_typing.specs.Meaning.{run}
 use Rattle.gb_typing.specs.Rules.{IsSettingOver}
 use Rattle.gb_typing.specs.Scopes.{IsTypedScope}
 use Rattle.gb_typing.proofs.Drawing.{body_sound}
-use Rattle.gb_typing.proofs.LinkedProcedures.{linked_there}
+use Rattle.gb_adversaries.proofs.Meanings.{means_there}
 use Rattle.gb_prog.specs.Writes.{DifferIn, WritesWithin}
 use Rattle.gb_prog.proofs.Reached.{good_anywhere}
 use Rattle.gb_prog.proofs.Within.{within_while}
@@ -32,12 +29,6 @@ use Rattle.gb_forms.specs.Loops.{written}
 use Rattle.gb_loops.specs.LastLoop.{LastLoop, last_loop}
 use Rattle.gb_loops.proofs.BodyWrites.{writes_found}
 use Rattle.gb_loops.proofs.LastLoops.{IsTypedLoop, ends_with, statement_of}
-
--- in a setting of declarations a declared procedure is its body
-pub linked : (ds : Declarations) → IsTypedScope (declared ds) → (g : Setting) → IsSettingOver (declared ds) g → (p : ProcRef) (a : Proc) → procedure_of ds p ≡ Some a →
-    g.procedure p ≡ Some (routine a.params a.locals (statements g a.body.list) a.value)
-linked ds scoped g over p a e =
-    subst (λ h. h.procedure p ≡ Some (routine a.params a.locals (statements h a.body.list) a.value)) (sym over.meant) (linked_there ds scoped over.interpretation over.chosen p a e)
 
 module _ (g : Setting) (is : List Instr) (k : LastLoop) (last : last_loop is ≡ Some k) (ends : LoopsAreGood g (statements g is)) where
   abbrev parts : LoopsAreGood g (statements g k.before) × LoopsAreGood g (statements g (statement_of k ∷ []))
@@ -63,7 +54,7 @@ module _ (g : Setting) (c : Context) (ls : List TypedName) (k : LastLoop) (t : I
 
 module _ (ds : Declarations) (scoped : IsTypedScope (declared ds)) (g : Setting) (over : IsSettingOver (declared ds) g) (k : LastLoop) (U : List Var) (u : written ds k.body.list ≡ Some U) where
   loop_writes : WritesWithin g U (statements g (statement_of k ∷ []))
-  loop_writes = within_while g U k.guard k.variant k.body [] (writes_found g ds (linked ds scoped g over) k.body.list U u) (λ x s. tt)
+  loop_writes = within_while g U k.guard k.variant k.body [] (writes_found g ds (means_there ds scoped g over) k.body.list U u) (λ x s. tt)
 
   -- where a loop ends, the memory differs from the first in what it writes
   pub loop_differs : (s : State) (m : Memory) → Every (DifferIn g.types U m) (run g s (statement_of k ∷ []) m)

@@ -16,7 +16,8 @@ use Rattle.gb_laws.specs.Written.{IsSide, with_side}
 use Rattle.gb_laws.specs.Finite.{IsFinite}
 use Rattle.gb_typing.specs.Context.{Context, Frame, frame_of, reframed}
 use Rattle.gb_typing.specs.Fits.{IsSettingOf, IsStateOf}
-use Rattle.gb_typing.specs.Forms.{and_form, located, not_form}
+use Rattle.gb_walk.specs.Clash.{Exclusions}
+use Rattle.gb_typing.specs.Forms.{IsKeptOff, and_form, located, not_form}
 use Rattle.gb_typing.specs.Rules.{outermost}
 use Rattle.gb_typing.specs.Typing.{IsIn, IsForm}
 use Rattle.gb_typing.proofs.Forms.{and_make, and_typed, and_use, implies_typed, implies_use, not_make, not_typed}
@@ -70,7 +71,7 @@ module _ (c : Context) (outer : c ≡ outermost c) (ls : List TypedName) (F L K 
     pub turns_from : (s : State) (n : Memory) → den g j v (with_side s r n) ≡ true → is_true g s k.guard n ≡ true → den g j (turning r v k) (with_side s r n) ≡ true
     turns_from s n h e = and_make g j v guard (with_side s r n) h (guard_value g j s n ∙ e)
 
-    module _ (U : List Var) (clear : clashing r U (at_end r v k q) ≡ None) (fits : IsSettingOf c g) (fair : IsFair g j) (s : State) (fit : IsStateOf d g s) (h : den g j (before_loop r v k q U) s ≡ true) where
+    module _ (U : List Var) (es : Exclusions) (off : IsKeptOff es g) (clear : clashing es r U (at_end r v k q) ≡ None) (fits : IsSettingOf c g) (fair : IsFair g j) (s : State) (fit : IsStateOf d g s) (h : den g j (before_loop r v k q U) s ≡ true) where
       pub holds_before : den g j v s ≡ true
       holds_before = (and_use g j v (all_values (read_in r (at_end r v k q) U) (at_end r v k q)) s h).0
 
@@ -78,9 +79,9 @@ module _ (c : Context) (outer : c ≡ outermost c) (ls : List TypedName) (F L K 
       pub holds_behind : (n : Memory) → DifferIn g.types U (memory_of s r) n → den g j v (with_side s r n) ≡ true → is_true g s k.guard n ≡ false → den g j q (with_side s r n) ≡ true
       holds_behind n e a b =
           let w = end_form in
-          let S = covered d r i (at_end r v k q) w.typed U (none_clashing r (at_end r v k q) U clear) in
+          let S = covered es d r i (at_end r v k q) w.typed U (none_clashing es r (at_end r v k q) U clear) in
           implies_use g j (and_form v (not_form guard)) q (with_side s r n)
           (ends_in_one c outer F L K (at_end r v k q) end_form g fits j fair S.readable S.within s fit r i U (read_among r (at_end r v k q) U)
-          (covers g r (at_end r v k q) U S) (read_located d r i fin (at_end r v k q) w.typed U) (are_alone g r (at_end r v k q) U S)
+          (covers g es off r (at_end r v k q) U S) (read_located d r i fin (at_end r v k q) w.typed U) (are_alone g es off r (at_end r v k q) U S)
           (and_use g j v (all_values (read_in r (at_end r v k q) U) (at_end r v k q)) s h).1 n e)
           (and_make g j v (not_form guard) (with_side s r n) a (not_make g j guard (with_side s r n) (guard_value g j s n ∙ b)))

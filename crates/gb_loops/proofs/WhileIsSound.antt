@@ -38,6 +38,8 @@ use Rattle.gb_steps.specs.declared.step.Acts.TheVariants as on
 use Rattle.gb_typing.specs.Context.{Context}
 use Rattle.gb_typing.specs.Fits.{IsSettingOf, IsStateOf}
 use Rattle.gb_typing.specs.Goals.{IsGoalOver}
+use Rattle.gb_mods.specs.Exclusions.{exclusions}
+use Rattle.gb_adversaries.proofs.KeptOff.{kept_off}
 use Rattle.gb_typing.specs.Meaning.{run, denominator}
 use Rattle.gb_typing.specs.Programs.{HaveVariableTypes, IsBody}
 use Rattle.gb_typing.specs.Rules.{IsSettingOver, outermost}
@@ -78,24 +80,24 @@ record IsTaken (ds : Declarations) (b : Bool) (o : OneBody) (v : Term) (Gs : Lis
   last : last_loop o.list ≡ Some loop
   found : List Var
   known : written ds loop.body.list ≡ Some found
-  clear : clashing o.side found (at_end o.side v loop o.post) ≡ None
+  clear : clashing (exclusions ds) o.side found (at_end o.side v loop o.post) ≡ None
   weight : kept_weight ds b loop ≡ given tt
   goals : loop_goals o v loop found ≡ Gs
 
 module _ (ds : Declarations) (b : Bool) (o : OneBody) (v : Term) (Gs : List Goal) where
-  by_weight : (k : LastLoop) → last_loop o.list ≡ Some k → (U : List Var) → written ds k.body.list ≡ Some U → clashing o.side U (at_end o.side v k o.post) ≡ None → (a : Answer (Unit {0})) → kept_weight ds b k ≡ a →
+  by_weight : (k : LastLoop) → last_loop o.list ≡ Some k → (U : List Var) → written ds k.body.list ≡ Some U → clashing (exclusions ds) o.side U (at_end o.side v k o.post) ≡ None → (a : Answer (Unit {0})) → kept_weight ds b k ≡ a →
       (a >>= λ _. given (loop_goals o v k U)) ≡ given Gs → IsTaken ds b o v Gs
   by_weight k l U u c (given tt) w e = record { loop = k; last = l; found = U; known = u; clear = c; weight = w; goals = same_given (loop_goals o v k U) Gs e }
   by_weight k l U u c (refused why p) w e = refused_at why p Gs e
 
-  by_clash : (k : LastLoop) → last_loop o.list ≡ Some k → (U : List Var) → written ds k.body.list ≡ Some U → (r : Option Var) → clashing o.side U (at_end o.side v k o.post) ≡ r →
+  by_clash : (k : LastLoop) → last_loop o.list ≡ Some k → (U : List Var) → written ds k.body.list ≡ Some U → (r : Option Var) → clashing (exclusions ds) o.side U (at_end o.side v k o.post) ≡ r →
       unless_clash r (kept_weight ds b k >>= λ _. given (loop_goals o v k U)) ≡ given Gs → IsTaken ds b o v Gs
   by_clash k l U u (Some x) c e = refused_given (SideCondition x) Gs e
   by_clash k l U u None c e = by_weight k l U u c (kept_weight ds b k) refl e
 
   by_found : (k : LastLoop) → last_loop o.list ≡ Some k → (r : Option (List Var)) → written ds k.body.list ≡ r → by_written ds b o v k r ≡ given Gs → IsTaken ds b o v Gs
   by_found k l None u e = refused_given Shape Gs e
-  by_found k l (Some U) u e = by_clash k l U u (clashing o.side U (at_end o.side v k o.post)) refl e
+  by_found k l (Some U) u e = by_clash k l U u (clashing (exclusions ds) o.side U (at_end o.side v k o.post)) refl e
 
   by_last : (r : Option LastLoop) → last_loop o.list ≡ r → by_loop ds b o v r ≡ given Gs → IsTaken ds b o v Gs
   by_last None l e = refused_given Shape Gs e
@@ -139,7 +141,7 @@ module _ (ds : Declarations) (scoped : IsTypedScope (declared ds)) (t : Sequent)
   module _ (outer : c ≡ outermost c) (ls rs : List TypedName) where
     -- What runs of a loop tell, in the own memory.
     module _ (is : List Instr) (q : Term) (body_typed : IsBody c ls is) (invariant : IsForm (one c ls) v) (post : IsForm (one c ls) q) (k : LastLoop) (last : last_loop is ≡ Some k) (U : List Var)
-        (known : written ds k.body.list ≡ Some U) (clear : clashing side.Own U (at_end side.Own v k q) ≡ None) where
+        (known : written ds k.body.list ≡ Some U) (clear : clashing (exclusions ds) side.Own U (at_end side.Own v k q) ≡ None) where
       loop : IsTypedLoop c ls k
       loop = loop_typed c ls is k body_typed last
 
@@ -161,11 +163,11 @@ module _ (ds : Declarations) (scoped : IsTypedScope (declared ds)) (t : Sequent)
 
           start : IsTrueUnder g j v (at s n)
           start =
-              holds_before c outer ls (Some ls) c.left c.right side.Own tt refl (finite_in ds scoped t typed.frames (Some ls) c.left c.right ls body_typed.locals) v q invariant post k loop g j U clear fits fair (at s n) fit_here h
+              holds_before c outer ls (Some ls) c.left c.right side.Own tt refl (finite_in ds scoped t typed.frames (Some ls) c.left c.right ls body_typed.locals) v q invariant post k loop g j U (exclusions ds) (kept_off ds scoped g over) clear fits fair (at s n) fit_here h
 
           behind : (z : Memory) → DifferIn g.types U n z → IsTrueUnder g j v (at s z) → is_true g s k.guard z ≡ false → IsTrueUnder g j q (at s z)
           behind z d a b =
-              holds_behind c outer ls (Some ls) c.left c.right side.Own tt refl (finite_in ds scoped t typed.frames (Some ls) c.left c.right ls body_typed.locals) v q invariant post k loop g j U clear fits fair (at s n) fit_here h z d a b
+              holds_behind c outer ls (Some ls) c.left c.right side.Own tt refl (finite_in ds scoped t typed.frames (Some ls) c.left c.right ls body_typed.locals) v q invariant post k loop g j U (exclusions ds) (kept_off ds scoped g over) clear fits fair (at s n) fit_here h z d a b
 
           -- where the loop ends
           all_end : Every (λ z. IsTrueUnder g j q (at s z)) (run g s (statement_of k ∷ []) n)
@@ -269,7 +271,7 @@ module _ (ds : Declarations) (scoped : IsTypedScope (declared ds)) (t : Sequent)
       abbrev on_right : OneBody
       on_right = record { side = side.Right; list = js; pre = p; post = q; goal = λ js p q. equiv (body is) (body js) p q }
 
-      module _ (k : LastLoop) (last : last_loop is ≡ Some k) (U : List Var) (known : written ds k.body.list ≡ Some U) (clear : clashing side.Left U (at_end side.Left v k q) ≡ None) where
+      module _ (k : LastLoop) (last : last_loop is ≡ Some k) (U : List Var) (known : written ds k.body.list ≡ Some U) (clear : clashing (exclusions ds) side.Left U (at_end side.Left v k q) ≡ None) where
         left_loop : IsTypedLoop c ls k
         left_loop = loop_typed c ls is k w.1 last
 
@@ -288,13 +290,13 @@ module _ (ds : Declarations) (scoped : IsTypedScope (declared ds)) (t : Sequent)
             let here = state_between c g s fit c.own (Some ls) (Some rs) a b in
             coupling_weakening {Q = λ m n. (IsTrueUnder g j v (between s m n) × (is_true g s k.guard m ≡ false)) × DifferIn g.types U a m × (n ≡ b)} {R = λ m n. IsTrueUnder g j q (between s m n)}
             (λ m n f. subst (λ n. IsTrueUnder g j q (between s m n)) (sym f.2)
-            (holds_behind c outer ls c.own (Some ls) (Some rs) side.Left tt refl (finite_in ds scoped t typed.frames c.own (Some ls) (Some rs) ls (locals_of w.1)) v q y w.4 k l g j U clear fits fair (between s a b) here d m f.1
+            (holds_behind c outer ls c.own (Some ls) (Some rs) side.Left tt refl (finite_in ds scoped t typed.frames c.own (Some ls) (Some rs) ls (locals_of w.1)) v q y w.4 k l g j U (exclusions ds) (kept_off ds scoped g over) clear fits fair (between s a b) here d m f.1
             (subst (λ n. IsTrueUnder g j v (between s m n)) f.2 f.0.0) f.0.1))
             (runs_facts g s (statements g (statement_of k ∷ [])) done (loop_sound g c ls k l fits) tt (DifferIn g.types U a) (λ n. n ≡ b) (λ m n. IsTrueUnder g j v (between s m n) × (is_true g s k.guard m ≡ false)) a b
             (loop_differs ds scoped g over k U known s a) (refl, tt)
             (statement_left g s k.guard k.variant k.body (loop_good g is k last ends c ls l s) (turn_sound g c ls k l fits) (λ m n. IsTrueUnder g j v (between s m n)) b
             (λ m f e. turn m b (turns_from c outer ls c.own (Some ls) (Some rs) side.Left tt refl (finite_in ds scoped t typed.frames c.own (Some ls) (Some rs) ls (locals_of w.1)) v q y w.4 k l g j (between s a b) m f e)) a
-            (holds_before c outer ls c.own (Some ls) (Some rs) side.Left tt refl (finite_in ds scoped t typed.frames c.own (Some ls) (Some rs) ls (locals_of w.1)) v q y w.4 k l g j U clear fits fair (between s a b) here d)))
+            (holds_before c outer ls c.own (Some ls) (Some rs) side.Left tt refl (finite_in ds scoped t typed.frames c.own (Some ls) (Some rs) ls (locals_of w.1)) v q y w.4 k l g j U (exclusions ds) (kept_off ds scoped g over) clear fits fair (between s a b) here d)))
 
       left_sound : (Gs : List Goal) → IsTaken ds false on_left v Gs → Sound (equiv (body is) (body js) p q) Gs
       left_sound Gs x =
@@ -309,7 +311,7 @@ module _ (ds : Declarations) (scoped : IsTypedScope (declared ds)) (t : Sequent)
             ends = λ g over e. ((turn_ends g is k x.last e.0, tt), ((front_ends g is k x.last e.0, e.1), tt));
           })
 
-      module _ (k : LastLoop) (last : last_loop js ≡ Some k) (U : List Var) (known : written ds k.body.list ≡ Some U) (clear : clashing side.Right U (at_end side.Right v k q) ≡ None) where
+      module _ (k : LastLoop) (last : last_loop js ≡ Some k) (U : List Var) (known : written ds k.body.list ≡ Some U) (clear : clashing (exclusions ds) side.Right U (at_end side.Right v k q) ≡ None) where
         right_loop : IsTypedLoop c rs k
         right_loop = loop_typed c rs js k w.2 last
 
@@ -328,13 +330,13 @@ module _ (ds : Declarations) (scoped : IsTypedScope (declared ds)) (t : Sequent)
             let here = state_between c g s fit c.own (Some ls) (Some rs) a b in
             coupling_weakening {Q = λ m n. (IsTrueUnder g j v (between s m n) × (is_true g s k.guard n ≡ false)) × (m ≡ a) × DifferIn g.types U b n} {R = λ m n. IsTrueUnder g j q (between s m n)}
             (λ m n f. subst (λ m. IsTrueUnder g j q (between s m n)) (sym f.1)
-            (holds_behind c outer rs c.own (Some ls) (Some rs) side.Right tt refl (finite_in ds scoped t typed.frames c.own (Some ls) (Some rs) rs (locals_of w.2)) v q y w.4 k l g j U clear fits fair (between s a b) here d n f.2
+            (holds_behind c outer rs c.own (Some ls) (Some rs) side.Right tt refl (finite_in ds scoped t typed.frames c.own (Some ls) (Some rs) rs (locals_of w.2)) v q y w.4 k l g j U (exclusions ds) (kept_off ds scoped g over) clear fits fair (between s a b) here d n f.2
             (subst (λ m. IsTrueUnder g j v (between s m n)) f.1 f.0.0) f.0.1))
             (runs_facts g s done (statements g (statement_of k ∷ [])) tt (loop_sound g c rs k l fits) (λ m. m ≡ a) (DifferIn g.types U b) (λ m n. IsTrueUnder g j v (between s m n) × (is_true g s k.guard n ≡ false)) a b
             (refl, tt) (loop_differs ds scoped g over k U known s b)
             (statement_right g s k.guard k.variant k.body (loop_good g js k last ends c rs l s) (turn_sound g c rs k l fits) (λ m n. IsTrueUnder g j v (between s m n)) a
             (λ n f e. turn a n (turns_from c outer rs c.own (Some ls) (Some rs) side.Right tt refl (finite_in ds scoped t typed.frames c.own (Some ls) (Some rs) rs (locals_of w.2)) v q y w.4 k l g j (between s a b) n f e)) b
-            (holds_before c outer rs c.own (Some ls) (Some rs) side.Right tt refl (finite_in ds scoped t typed.frames c.own (Some ls) (Some rs) rs (locals_of w.2)) v q y w.4 k l g j U clear fits fair (between s a b) here d)))
+            (holds_before c outer rs c.own (Some ls) (Some rs) side.Right tt refl (finite_in ds scoped t typed.frames c.own (Some ls) (Some rs) rs (locals_of w.2)) v q y w.4 k l g j U (exclusions ds) (kept_off ds scoped g over) clear fits fair (between s a b) here d)))
 
       right_sound : (Gs : List Goal) → IsTaken ds false on_right v Gs → Sound (equiv (body is) (body js) p q) Gs
       right_sound Gs x =

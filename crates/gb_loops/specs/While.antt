@@ -7,7 +7,6 @@ use Rattle.gb_terms.specs.declared.op.Rel.{Rel}
 use Rattle.gb_terms.specs.declared.op.Rel.TheVariants.{AtMost, Equal, AtLeast}
 use Rattle.gb_terms.specs.declared.op.Side.{Side}
 use Rattle.gb_terms.specs.declared.op.Side.TheVariants.{Left, Right}
-use Rattle.gb_terms.specs.declared.term.Instr.{Instr}
 use Rattle.gb_terms.specs.declared.term.Term.{Term}
 use Rattle.gb_steps.specs.declared.step.Acts.{Acts}
 use Rattle.gb_steps.specs.declared.step.Acts.TheVariants as on
@@ -33,6 +32,8 @@ use Rattle.gb_full.specs.Lossless.{full}
 use Rattle.gb_forms.specs.Loops.{turn_goal, written}
 use Rattle.gb_loops.specs.LastLoop.{LastLoop, last_loop}
 use Rattle.gb_loops.specs.Read.{read_in}
+use Rattle.gb_mods.specs.Exclusions.{exclusions}
+use Rattle.gb_walk.specs.Clash.{Exclusions}
 
 -- the invariant and the guard: where a turn begins
 abbrev pub turning : Side → Term → LastLoop → Term
@@ -57,7 +58,7 @@ kept_weight ds false k = given tt
 
 abbrev pub by_written : Declarations → Bool → OneBody → Term → LastLoop → Option (List Var) → Answer (List Goal)
 by_written ds b o v k None = refusing Shape
-by_written ds b o v k (Some U) = unless_clash (clashing o.side U (at_end o.side v k o.post)) (kept_weight ds b k >>= λ _. given (loop_goals o v k U))
+by_written ds b o v k (Some U) = unless_clash (clashing (exclusions ds) o.side U (at_end o.side v k o.post)) (kept_weight ds b k >>= λ _. given (loop_goals o v k U))
 
 -- the goals of the loop that a body ends with; whether no weight may be lost is said before
 abbrev pub by_loop : Declarations → Bool → OneBody → Term → Option LastLoop → Answer (List Goal)
@@ -107,15 +108,15 @@ both_goals v p q k l T U =
     equiv (body k.body.list) (body l.body.list) (turning_both v k l) (in_step v k l) ∷ equiv (body k.before) (body l.before) p (before_both v k l q T U) ∷ []
 
 -- the least variable that is replaced and with which another one clashes that the form reads in its memory
-abbrev pub clashing_both : List Var → List Var → Term → Option Var
-clashing_both T U f = least (filter (is_clashing Left f) T ++ filter (is_clashing Right f) U)
+abbrev pub clashing_both : Exclusions → List Var → List Var → Term → Option Var
+clashing_both es T U f = least (filter (is_clashing es Left f) T ++ filter (is_clashing es Right f) U)
 
-abbrev pub both_written : Term → Term → Term → LastLoop → LastLoop → Option (List Var) → Option (List Var) → Answer (List Goal)
-both_written v p q k l (Some T) (Some U) = unless_clash (clashing_both T U (at_both_ends v k l q)) (given (both_goals v p q k l T U))
-both_written v p q k l _ _ = refusing Shape
+abbrev pub both_written : Exclusions → Term → Term → Term → LastLoop → LastLoop → Option (List Var) → Option (List Var) → Answer (List Goal)
+both_written es v p q k l (Some T) (Some U) = unless_clash (clashing_both es T U (at_both_ends v k l q)) (given (both_goals v p q k l T U))
+both_written es v p q k l _ _ = refusing Shape
 
 abbrev pub by_both : Declarations → Term → Term → Term → Option LastLoop → Option LastLoop → Answer (List Goal)
-by_both ds v p q (Some k) (Some l) = both_written v p q k l (written ds k.body.list) (written ds l.body.list)
+by_both ds v p q (Some k) (Some l) = both_written (exclusions ds) v p q k l (written ds k.body.list) (written ds l.body.list)
 by_both ds v p q _ _ = refusing Shape
 
 abbrev pub both_loops : Declarations → Acts → Term → Row

@@ -22,12 +22,13 @@ use gb_forms::loops::written;
 use gb_goal::goal::equiv;
 use gb_goal::scope::Scope;
 use gb_goal::sequent::{Sequent, Sequents};
+use gb_mods::exclusions::exclusions;
 use gb_parts::forms::located;
 use gb_parts::subgoals::{no_shape, shared_body, two_goals};
 use gb_terms::make::{conjunction, equality, implication, negation};
 use gb_terms::op::Side;
 use gb_terms::term::{Form, Instr};
-use gb_walk::clash::{first_clash, lesser};
+use gb_walk::clash::{Excluded, first_clash, lesser};
 use sqlite_items::Items;
 use std::alloc::{AllocError, Global};
 
@@ -148,15 +149,16 @@ fn both_goals(
 /// The lesser of what was found before and the least of these variables with which another one clashes that the form reads.
 fn clashing_from<'a>(
     found: Option<&'a Var>,
+    exclusions: &[Excluded],
     side: Side,
     list: &'a [Var],
     form: &Form,
 ) -> Option<&'a Var>
-    ensures { option_copied result ≡ least_from (option_copied found.entry) (filter (is_clashing side form.now) list.now) }
+    ensures { option_copied result ≡ least_from (option_copied found.entry) (filter (is_clashing exclusions.now side form.now) list.now) }
 {
     let mut least = found;
     for variable in list {
-        if first_clash(&side, variable, form).is_some() {
+        if first_clash(exclusions, &side, variable, form).is_some() {
             least = lesser(least, variable);
         }
     }
@@ -164,11 +166,16 @@ fn clashing_from<'a>(
 }
 
 /// The least variable that is replaced and with which another one clashes that the form reads in its memory.
-fn clashing_both<'a>(left: &'a [Var], right: &'a [Var], form: &Form) -> Option<&'a Var>
-    ensures { option_copied result ≡ clashing_both left.now right.now form.now }
+fn clashing_both<'a>(
+    exclusions: &[Excluded],
+    left: &'a [Var],
+    right: &'a [Var],
+    form: &Form,
+) -> Option<&'a Var>
+    ensures { option_copied result ≡ clashing_both exclusions.now left.now right.now form.now }
 {
-    let found = clashing_from(None, Side::Left, left, form);
-    clashing_from(found, Side::Right, right, form)
+    let found = clashing_from(None, exclusions, Side::Left, left, form);
+    clashing_from(found, exclusions, Side::Right, right, form)
 }
 
 /// The goals of the loops at the ends of two bodies.
@@ -188,7 +195,8 @@ pub fn by_both(
     };
     let ends = at_both_ends(alloc, loops)?;
     let (left, right) = (left.as_slice(), right.as_slice());
-    if let Some(var) = clashing_both(left, right, &ends) {
+    let excluded = exclusions(alloc, scope)?;
+    if let Some(var) = clashing_both(excluded.as_slice(), left, right, &ends) {
         return Err(side_condition(alloc, var));
     }
     Ok(both_goals(alloc, goal, loops, &ends, left, right)?)

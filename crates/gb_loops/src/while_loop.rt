@@ -29,6 +29,7 @@ use gb_full::lossless::full;
 use gb_goal::goal::{Code, Goal, goal_of};
 use gb_goal::scope::Scope;
 use gb_goal::sequent::{Sequent, Sequents};
+use gb_mods::exclusions::exclusions;
 use gb_parts::assigned::clashing;
 use gb_parts::compared::literal;
 use gb_parts::forms::located;
@@ -150,7 +151,8 @@ fn by_last(
     };
     let side = side_of(one.around);
     let ends = at_end(alloc, side, turned, one.post)?;
-    if let Some(var) = clashing(side, list.as_slice(), &ends) {
+    let excluded = exclusions(alloc, scope)?;
+    if let Some(var) = clashing(excluded.as_slice(), side, list.as_slice(), &ends) {
         return Err(side_condition(alloc, var));
     }
     kept_weight(alloc, scope, lossless, turned)?;

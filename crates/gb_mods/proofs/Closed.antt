@@ -8,8 +8,9 @@ use Rattle.std.proofs.lemmas.Slice.Eq.{bytes_eq-Decides}
 use Rattle.gb_terms.specs.declared.module.ProcRef.{ProcRef}
 use Rattle.gb_terms.specs.SameModules.{mexp_eq}
 use Rattle.gb_terms.proofs.SameModules.{mexp_eq-Decides}
-use Rattle.gb_goal.specs.Scope.{Declarations, procedure_of}
+use Rattle.gb_goal.specs.Scope.{Declarations}
 use Rattle.gb_mods.specs.Called.{added, called, called_by, is_among, reached, same_procedure}
+use Rattle.gb_mods.specs.Meant.{meant_by}
 
 -- q is one of these
 abbrev pub IsIn : List ProcRef → ProcRef → Type 0
@@ -84,14 +85,14 @@ none_behind ps [] e = refl
 none_behind ps (q ∷ qs) e = let l = length-append ps (q ∷ qs) in absurd (omega (arith, e, l))
 
 module _ (ds : Declarations) where
-  in_called : (ps : List ProcRef) (p q : ProcRef) → IsIn ps p → IsIn (called_by (procedure_of ds p)) q → IsIn (called ds ps) q
+  in_called : (ps : List ProcRef) (p q : ProcRef) → IsIn ps p → IsIn (called_by (meant_by ds p)) q → IsIn (called ds ps) q
   in_called [] p q i h = absurd i
-  in_called (x ∷ ps) p q (inl e) h = in_front (called_by (procedure_of ds x)) (called ds ps) q (subst (λ z. IsIn (called_by (procedure_of ds z)) q) (sym e) h)
-  in_called (x ∷ ps) p q (inr k) h = in_behind (called_by (procedure_of ds x)) (called ds ps) q (in_called ps p q k h)
+  in_called (x ∷ ps) p q (inl e) h = in_front (called_by (meant_by ds x)) (called ds ps) q (subst (λ z. IsIn (called_by (meant_by ds z)) q) (sym e) h)
+  in_called (x ∷ ps) p q (inr k) h = in_behind (called_by (meant_by ds x)) (called ds ps) q (in_called ps p q k h)
 
   -- with each of some procedures, those that it calls are among others
   abbrev pub AreFollowed : List ProcRef → List ProcRef → Type 0
-  AreFollowed ps qs = (p : ProcRef) → IsIn ps p → (q : ProcRef) → IsIn (called_by (procedure_of ds p)) q → IsIn qs q
+  AreFollowed ps qs = (p : ProcRef) → IsIn ps p → (q : ProcRef) → IsIn (called_by (meant_by ds p)) q → IsIn qs q
 
   -- the procedures are there, and closed under calls
   pub record AreReached (ps qs : List ProcRef) : Type 0 where

@@ -5,3 +5,4 @@ pub mod ReadSteps
 pub mod WrittenSteps
 pub mod Closed
 pub mod Meeting
+pub mod ExclusionSteps

@@ -1,6 +1,5 @@
 -- Which variables are read and written, step by step.
-use Rattle.std.proofs.Common.{◌≡◌, List, [], ◌∷◌, ◌++◌, append-nil, append_assoc, refl, ap, sym, ◌∙◌}
-use Rattle.gb_core.specs.declared.ty.Ty.{Ty}
+use Rattle.std.proofs.Common.{◌≡◌, List, ◌++◌, append-nil, append_assoc, refl, ap, sym, ◌∙◌}
 use Rattle.gb_core.specs.declared.var.Var.{Var}
 use Rattle.gb_terms.specs.declared.module.ProcRef.{ProcRef}
 use Rattle.gb_terms.specs.declared.term.Cmd.{Cmd, items-the_row-Instr, items_hidden-the_row-Instr-1}

@@ -1,12 +1,15 @@
 -- Which procedures a procedure calls.
-use Rattle.std.specs.Prelude.{ℕ, zero, suc, ◌^◌, ◌==◌, Bool, false, ◌&&◌, if◌then◌else◌, List, [], ◌∷◌, ◌++◌, drop, length, Option, Some, None, bytes_eq}
+use Rattle.std.specs.Prelude.{ℕ, zero, suc, ◌^◌, ◌==◌, Bool, ◌&&◌, if◌then◌else◌, List, [], ◌∷◌, ◌++◌, drop, length, Option, Some, None, bytes_eq}
 use Rattle.std.specs.List.{list_any}
 use Rattle.gb_terms.specs.declared.decl.Proc.{Proc}
 use Rattle.gb_terms.specs.declared.module.ProcRef.{ProcRef}
 use Rattle.gb_terms.specs.declared.term.Head.TheVariants.{Call', If', While'}
 use Rattle.gb_terms.specs.declared.term.Instr.{Instr, Row_of-Instr, end_of-Instr, more_of-Instr}
 use Rattle.gb_terms.specs.SameModules.{mexp_eq}
-use Rattle.gb_goal.specs.Scope.{Declarations, procedure_of}
+use Rattle.gb_goal.specs.Scope.{Declarations}
+use Rattle.gb_mods.specs.declared.meant.Meant.{Meant}
+use Rattle.gb_mods.specs.declared.meant.Meant.TheVariants.{Unknown, Declared, Any}
+use Rattle.gb_mods.specs.Meant.{meant_by}
 
 abbrev mutual
   -- the procedures that a statement calls itself, and those of the statements in it
@@ -37,14 +40,20 @@ abbrev pub added : List ProcRef → List ProcRef → List ProcRef
 added ps [] = ps
 added ps (q ∷ qs) = added (if is_among ps q then ps else ps ++ q ∷ []) qs
 
-abbrev pub called_by : Option Proc → List ProcRef
-called_by None = []
-called_by (Some f) = calls f.body.list
+abbrev pub calls_if : Option Proc → List ProcRef
+calls_if None = []
+calls_if (Some f) = calls f.body.list
 
--- the procedures that declared ones call themselves
+-- the procedures that a procedure calls itself; one of an abstract module calls its oracles
+abbrev pub called_by : Meant → List ProcRef
+called_by Unknown = []
+called_by (Declared f) = calls f.body.list
+called_by (Any a qs) = qs
+
+-- the same of several
 abbrev pub called : Declarations → List ProcRef → List ProcRef
 called ds [] = []
-called ds (p ∷ ps) = called_by (procedure_of ds p) ++ called ds ps
+called ds (p ∷ ps) = called_by (meant_by ds p) ++ called ds ps
 
 -- Procedures, of which the calls of the first k are known to be among them: with those that the others call, those that these call,
 -- and so on, where it is known what procedures call themselves. None where there are more after so many calls.

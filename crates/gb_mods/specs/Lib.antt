@@ -1,4 +1,6 @@
 pub mod Order
+pub mod Asked
+pub mod Meant
 pub mod Called
 pub mod Touched
 pub mod Read
@@ -7,3 +9,4 @@ pub mod Footprint
 pub mod Link
 pub mod Reach
 pub mod Meets
+pub mod Exclusions

@@ -2,11 +2,14 @@
 use Rattle.std.specs.Prelude.{List, [], ◌∷◌, ◌++◌, Option, Some, None}
 use Rattle.std.specs.Option.{option_map}
 use Rattle.gb_core.specs.declared.var.Var.{Var}
-use Rattle.gb_terms.specs.declared.decl.Proc.{Proc}
+use Rattle.gb_core.specs.declared.var.Var.TheVariants.{Glob}
 use Rattle.gb_terms.specs.declared.module.ProcRef.{ProcRef}
 use Rattle.gb_terms.specs.declared.term.Head.TheVariants.{Assign, Sample, Call', If', While'}
 use Rattle.gb_terms.specs.declared.term.Instr.{Instr, Row_of-Instr, end_of-Instr, more_of-Instr}
-use Rattle.gb_goal.specs.Scope.{Declarations, procedure_of}
+use Rattle.gb_goal.specs.Scope.{Declarations}
+use Rattle.gb_mods.specs.declared.meant.Meant.{Meant}
+use Rattle.gb_mods.specs.declared.meant.Meant.TheVariants.{Unknown, Declared, Any}
+use Rattle.gb_mods.specs.Meant.{in_front, meant_by}
 use Rattle.gb_holds.specs.Footprints.{globals_among}
 use Rattle.gb_mods.specs.Called.{all_reached}
 use Rattle.gb_mods.specs.Order.{joined}
@@ -29,21 +32,22 @@ abbrev pub targets : List Instr → List Var
 targets [] = []
 targets (i ∷ is) = statement_targets i ++ targets is
 
--- what a procedure writes itself, in front of what others do, where it is declared
-abbrev pub with_written : Option Proc → Option (List Var) → Option (List Var)
-with_written (Some f) (Some xs) = Some (globals_among (targets f.body.list) ++ xs)
-with_written _ _ = None
+-- What a procedure writes itself, where it is known what it stands for. One of an abstract module writes all that is the module's own.
+abbrev pub written_itself : Meant → Option (List Var)
+written_itself Unknown = None
+written_itself (Declared f) = Some (globals_among (targets f.body.list))
+written_itself (Any a qs) = Some (Glob a ∷ [])
 
--- the globals that procedures write themselves, where each is declared
+-- the globals that procedures write themselves, where it is known what each stands for
 abbrev pub written_by : Declarations → List ProcRef → Option (List Var)
 written_by ds [] = Some []
-written_by ds (p ∷ ps) = with_written (procedure_of ds p) (written_by ds ps)
+written_by ds (p ∷ ps) = in_front (written_itself (meant_by ds p)) (written_by ds ps)
 
 abbrev pub written_if : Declarations → Option (List ProcRef) → Option (List Var)
 written_if ds None = None
 written_if ds (Some ps) = option_map (λ xs. joined xs []) (written_by ds ps)
 
--- The globals that a procedure writes, through every procedure that it calls, in order. It isn't known where one of these isn't
--- declared.
+-- The globals that a procedure writes, through every procedure that it calls, in order. They aren't known where it isn't known what one
+-- of these stands for.
 unfoldable pub written : Declarations → ProcRef → Option (List Var)
 written ds p = written_if ds (all_reached ds (p ∷ []))

@@ -3,10 +3,10 @@
 ghost use Rattle.std.specs.Prelude.{◌≡◌, ◌++◌, IfOk};
 ghost use Rattle.gb_mods.specs.Called.{added, all_reached, called, called_by, calls, is_among, same_procedure, statement_calls};
 
+use crate::meant::{Meant, meant_by};
 use gb_core::Shared;
 use gb_core::same::same_name;
 use gb_goal::scope::Scope;
-use gb_terms::decl::Proc;
 use gb_terms::module::ProcRef;
 use gb_terms::same::same_module;
 use gb_terms::term::Instr;
@@ -83,28 +83,36 @@ pub fn added(found: Procedures, list: &[Shared<ProcRef>]) -> Result<Procedures, 
     Ok(all)
 }
 
-/// Procedures behind others, with those that a procedure calls itself.
-fn called_by(
-    alloc: Global,
-    found: Procedures,
-    procedure: Option<Shared<Proc>>,
-) -> Result<Procedures, AllocError>
-    ensures { IfOk result (λ made. made ≡ found ++ called_by procedure) }
+/// Procedures behind others.
+fn with_procedures(found: Procedures, list: &[Shared<ProcRef>]) -> Result<Procedures, AllocError>
+    ensures { IfOk result (λ made. made ≡ found ++ list.now) }
 {
-    match &procedure {
-        Some(f) => calls(alloc, found, f.get().body.list.as_slice()),
-        None => Ok(found),
+    let mut all = found;
+    for x in list {
+        all.push(x.share()?)?;
+    }
+    Ok(all)
+}
+
+/// Procedures behind others, with those that a procedure calls itself; one of an abstract module calls its oracles.
+fn called_by(alloc: Global, found: Procedures, meant: &Meant) -> Result<Procedures, AllocError>
+    ensures { IfOk result (λ made. made ≡ found ++ called_by meant.now) }
+{
+    match meant {
+        Meant::Unknown => Ok(found),
+        Meant::Declared(f) => calls(alloc, found, f.get().body.list.as_slice()),
+        Meant::Any(_, oracles) => with_procedures(found, oracles.as_slice()),
     }
 }
 
-/// The procedures that declared ones call themselves.
+/// The procedures that procedures call themselves.
 fn called(alloc: Global, scope: &Scope, list: &[Shared<ProcRef>]) -> Result<Procedures, AllocError>
     ensures { IfOk result (λ made. made ≡ called scope.now list.now) }
 {
     let mut all = Items::new(alloc);
     for x in list {
-        let procedure = scope.procedure(alloc, x.get())?;
-        all = called_by(alloc, all, procedure)?;
+        let meant = meant_by(alloc, scope, x.get())?;
+        all = called_by(alloc, all, &meant)?;
     }
     Ok(all)
 }

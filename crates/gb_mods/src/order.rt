@@ -1,10 +1,12 @@
 //! Variables in order.
 
-ghost use Rattle.std.specs.Prelude.{◌≡◌, ◌++◌, IfOk};
+ghost use Rattle.std.specs.Prelude.{◌≡◌, [], ◌∷◌, ◌++◌, IfOk};
+ghost use Rattle.gb_core.specs.declared.var.Var.TheVariants.{Glob};
 ghost use Rattle.gb_holds.specs.Footprints.{globals_among};
 ghost use Rattle.gb_mods.specs.Order.{joined, placed};
 
 use gb_core::copy::copy_var;
+use gb_core::name::Name;
 use gb_core::same::same_var;
 use gb_core::var::{Var, Vars};
 use gb_walk::clash::comes_before;
@@ -66,5 +68,15 @@ pub fn joined(alloc: Global, list: &[Var], ordered: Vars) -> Result<Vars, AllocE
         let at = list.len() - 1 - k;
         all = placed(alloc, &list[at], all.as_slice())?;
     }
+    Ok(all)
+}
+
+/// All that is the own of the abstract module of this name, as one variable.
+pub fn all_of(alloc: Global, module: &Name) -> Result<Vars, AllocError>
+    ensures { IfOk result (λ made. made ≡ Glob «module».now ∷ []) }
+{
+    let mut all = Items::new(alloc);
+    let module = module.copy(alloc)?;
+    all.push(Var::Glob { module })?;
     Ok(all)
 }

@@ -53,7 +53,8 @@ fn reached_from(
     all_reached(alloc, scope, first)
 }
 
-/// The globals that a procedure reads, through every procedure that it calls, in order. None where one of these isn't declared.
+/// The globals that a procedure reads, through every procedure that it calls, in order. None where it isn't known what one of
+/// these stands for.
 #[tactic(auto, unfolding(crate::specs::Read::read))]
 pub fn proc_reads(
     alloc: Global,
@@ -72,7 +73,8 @@ pub fn proc_reads(
     Ok(Some(ordered))
 }
 
-/// The globals that a procedure writes, through every procedure that it calls, in order. None where one of these isn't declared.
+/// The globals that a procedure writes, through every procedure that it calls, in order. None where it isn't known what one of
+/// these stands for.
 #[tactic(auto, unfolding(crate::specs::Written::written))]
 pub fn proc_writes(
     alloc: Global,

@@ -1,9 +1,10 @@
 //! Which variables statements and procedures read.
 
 ghost use Rattle.std.specs.Prelude.{◌≡◌, ◌++◌, IfOk};
-ghost use Rattle.gb_mods.specs.Read.{each_read, read_by, read_itself, statement_read};
+ghost use Rattle.gb_mods.specs.Read.{each_read, read_by, read_in, read_itself, statement_read};
 
-use crate::order::{globals_among, with_variables};
+use crate::meant::{Meant, meant_by};
+use crate::order::{all_of, globals_among, with_variables};
 use crate::touched::{each_variables, variables};
 use gb_core::Shared;
 use gb_core::var::Vars;
@@ -49,15 +50,27 @@ pub fn each_read(alloc: Global, found: Vars, list: &[Instr]) -> Result<Vars, All
 }
 
 /// The globals that a procedure reads itself, in its body and in what it returns.
-fn read_itself(alloc: Global, procedure: &Proc) -> Result<Vars, AllocError>
-    ensures { IfOk result (λ made. made ≡ read_itself procedure.now) }
+fn read_in(alloc: Global, procedure: &Proc) -> Result<Vars, AllocError>
+    ensures { IfOk result (λ made. made ≡ read_in procedure.now) }
 {
     let found = each_read(alloc, Items::new(alloc), procedure.body.list.as_slice())?;
     let found = variables(alloc, found, &procedure.value)?;
     globals_among(alloc, found.as_slice())
 }
 
-/// The globals that procedures read themselves. None where one isn't declared.
+/// The globals that a procedure reads itself; one of an abstract module reads all that is the module's own. None where it isn't known
+/// what it stands for.
+fn read_itself(alloc: Global, meant: &Meant) -> Result<Option<Vars>, AllocError>
+    ensures { IfOk result (λ made. made ≡ read_itself meant.now) }
+{
+    match meant {
+        Meant::Unknown => Ok(None),
+        Meant::Declared(procedure) => Ok(Some(read_in(alloc, procedure.get())?)),
+        Meant::Any(module, _) => Ok(Some(all_of(alloc, module)?)),
+    }
+}
+
+/// The globals that procedures read themselves. None where it isn't known what one stands for.
 pub fn read_by(
     alloc: Global,
     scope: &Scope,
@@ -67,10 +80,10 @@ pub fn read_by(
 {
     let mut all = Items::new(alloc);
     for x in list {
-        let Some(procedure) = scope.procedure(alloc, x.get())? else {
+        let meant = meant_by(alloc, scope, x.get())?;
+        let Some(own) = read_itself(alloc, &meant)? else {
             return Ok(None);
         };
-        let own = read_itself(alloc, procedure.get())?;
         all = with_variables(alloc, all, own.as_slice())?;
     }
     Ok(Some(all))

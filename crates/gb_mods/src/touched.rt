@@ -1,10 +1,11 @@
 //! Which variables statements read or write.
 
-ghost use Rattle.std.specs.Prelude.{◌≡◌, ◌++◌, Some, IfOk};
+ghost use Rattle.std.specs.Prelude.{◌≡◌, ◌++◌, IfOk};
 ghost use Rattle.gb_holds.specs.Footprints.{globals_among, head_variables, variables};
-ghost use Rattle.gb_mods.specs.Touched.{each_touched, each_variables, statement_touched, touched_itself};
+ghost use Rattle.gb_mods.specs.Touched.{each_touched, each_variables, statement_touched, touched_in, touched_itself};
 
-use crate::order::{globals_among, with_variables};
+use crate::meant::Meant;
+use crate::order::{all_of, globals_among, with_variables};
 use gb_core::copy::copy_var;
 use gb_core::var::Vars;
 use gb_terms::decl::Proc;
@@ -90,11 +91,22 @@ pub fn touched(alloc: Global, found: Vars, list: &[Instr]) -> Result<Vars, Alloc
     Ok(all)
 }
 
-/// The globals that a procedure reads or writes itself.
-pub fn touched_itself(alloc: Global, procedure: &Proc) -> Result<Vars, AllocError>
-    ensures { IfOk result (λ made. made ≡ touched_itself (Some procedure.now)) }
+/// The globals that a declared procedure reads or writes itself.
+pub fn touched_in(alloc: Global, procedure: &Proc) -> Result<Vars, AllocError>
+    ensures { IfOk result (λ made. made ≡ touched_in procedure.now) }
 {
     let found = touched(alloc, Items::new(alloc), procedure.body.list.as_slice())?;
     let found = variables(alloc, found, &procedure.value)?;
     globals_among(alloc, found.as_slice())
+}
+
+/// The globals that a procedure reads or writes itself; one of an abstract module touches all that is the module's own.
+pub fn touched_itself(alloc: Global, meant: &Meant) -> Result<Vars, AllocError>
+    ensures { IfOk result (λ made. made ≡ touched_itself meant.now) }
+{
+    match meant {
+        Meant::Unknown => Ok(Items::new(alloc)),
+        Meant::Declared(procedure) => touched_in(alloc, procedure.get()),
+        Meant::Any(module, _) => all_of(alloc, module),
+    }
 }

@@ -2,9 +2,10 @@
 
 ghost use Rattle.std.specs.Prelude.{◌≡◌, ◌++◌, IfOk};
 ghost use Rattle.gb_holds.specs.Footprints.{globals_among};
-ghost use Rattle.gb_mods.specs.Written.{statement_targets, targets, written_by};
+ghost use Rattle.gb_mods.specs.Written.{statement_targets, targets, written_by, written_itself};
 
-use crate::order::{globals_among, with_variables};
+use crate::meant::{Meant, meant_by};
+use crate::order::{all_of, globals_among, with_variables};
 use gb_core::Shared;
 use gb_core::copy::copy_var;
 use gb_core::var::Vars;
@@ -49,15 +50,27 @@ pub fn targets(alloc: Global, found: Vars, list: &[Instr]) -> Result<Vars, Alloc
     Ok(all)
 }
 
-/// The globals that a procedure writes itself.
-fn written_itself(alloc: Global, procedure: &Proc) -> Result<Vars, AllocError>
+/// The globals that a declared procedure writes itself.
+fn written_in(alloc: Global, procedure: &Proc) -> Result<Vars, AllocError>
     ensures { IfOk result (λ made. made ≡ globals_among (targets procedure.now.body.list)) }
 {
     let found = targets(alloc, Items::new(alloc), procedure.body.list.as_slice())?;
     globals_among(alloc, found.as_slice())
 }
 
-/// The globals that procedures write themselves. None where one isn't declared.
+/// The globals that a procedure writes itself; one of an abstract module writes all that is the module's own. None where it isn't known
+/// what it stands for.
+fn written_itself(alloc: Global, meant: &Meant) -> Result<Option<Vars>, AllocError>
+    ensures { IfOk result (λ made. made ≡ written_itself meant.now) }
+{
+    match meant {
+        Meant::Unknown => Ok(None),
+        Meant::Declared(procedure) => Ok(Some(written_in(alloc, procedure.get())?)),
+        Meant::Any(module, _) => Ok(Some(all_of(alloc, module)?)),
+    }
+}
+
+/// The globals that procedures write themselves. None where it isn't known what one stands for.
 pub fn written_by(
     alloc: Global,
     scope: &Scope,
@@ -67,10 +80,10 @@ pub fn written_by(
 {
     let mut all = Items::new(alloc);
     for x in list {
-        let Some(procedure) = scope.procedure(alloc, x.get())? else {
+        let meant = meant_by(alloc, scope, x.get())?;
+        let Some(own) = written_itself(alloc, &meant)? else {
             return Ok(None);
         };
-        let own = written_itself(alloc, procedure.get())?;
         all = with_variables(alloc, all, own.as_slice())?;
     }
     Ok(Some(all))

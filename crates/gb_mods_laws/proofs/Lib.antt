@@ -5,6 +5,7 @@ pub mod Members
 pub mod Bodies
 pub mod Ranks
 pub mod FinalModules
+pub mod MeantAlone
 pub mod SameFootprint
 pub mod Linked
 pub mod ReadGlobals

@@ -20,7 +20,7 @@ use Rattle.gb_mods.specs.Link.{link, linked}
 use Rattle.gb_mods.specs.declared.procedures.Linked.{Linked}
 
 module _ (ds : scope.Declarations) (scoped : IsTypedScope (declared ds)) (g : Setting) (over : IsSettingOver (declared ds) g) where
-  pub meant : (p : ProcRef) (a : Proc) → procedure_of ds p ≡ Some a → g.procedure p ≡ Some (routine a.params a.locals (statements g a.body.list) a.value)
+  meant : (p : ProcRef) (a : Proc) → procedure_of ds p ≡ Some a → g.procedure p ≡ Some (routine a.params a.locals (statements g a.body.list) a.value)
   meant p a e =
       subst (λ h. h.procedure p ≡ Some (routine a.params a.locals (statements h a.body.list) a.value)) (sym over.meant)
       (linked_there ds scoped over.interpretation over.chosen p a e)

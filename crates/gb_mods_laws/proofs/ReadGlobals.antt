@@ -6,7 +6,6 @@ use Rattle.gb_core.specs.declared.value.Value.{Value}
 use Rattle.gb_core.specs.declared.var.Var.{Var}
 use Rattle.gb_terms.specs.declared.decl.Proc.{Proc}
 use Rattle.gb_terms.specs.declared.module.ProcRef.{ProcRef}
-use Rattle.gb_terms.specs.declared.term.Term.{Term}
 use Rattle.gb_terms.specs.Equal.{var_eq}
 use Rattle.gb_terms.proofs.Equality.{var_eq-Decides}
 use Rattle.gb_walk.specs.Clash.{comes_before}
@@ -14,6 +13,7 @@ use Rattle.gb_goal.specs.Scope as scope
 use Rattle.gb_goal.specs.Scope.{procedure_of}
 use Rattle.gb_meaning.specs.Names.{Map}
 use Rattle.gb_meaning.specs.Program.{Routine}
+use Rattle.gb_meaning.specs.Program.Routine.{routine}
 use Rattle.gb_meaning.specs.Runs.{outcomes}
 use Rattle.gb_meaning.specs.Setting.{Setting}
 use Rattle.gb_meaning.specs.Values.{Types, fit}
@@ -34,10 +34,10 @@ use Rattle.gb_mods.specs.Called.{all_reached}
 use Rattle.gb_mods.specs.Order.{joined, placed}
 use Rattle.gb_mods.specs.Read.{read, read_by, read_if}
 use Rattle.gb_mods.proofs.Closed.{all_closed}
+use Rattle.gb_adversaries.proofs.Meanings.{means_there}
 use Rattle.gb_trans.proofs.Named.{EachNamed}
 use Rattle.gb_trans.proofs.ReadPlaces.{read_each, routine_good}
 use Rattle.gb_mods_laws.specs.Agree.{HoldsSame, HoldSame}
-use Rattle.gb_mods_laws.proofs.Linked.{meant}
 
 -- what is so of the places of variables in order is so of those of the variables
 module _ (t : Types) (P : Key → Type 0) where
@@ -57,11 +57,11 @@ module _ (t : Types) (P : Key → Type 0) where
 
 module _ (ds : scope.Declarations) (scoped : IsTypedScope (declared ds)) (g : Setting) (over : IsSettingOver (declared ds) g) where
   -- a context in which each declared procedure is typed
-  abbrev around : Term → Context
-  around t = of_sequent (context_of (declared ds)) (record { logical = []; memories = []; modules = []; hyps = []; conclusion = t }) []
+  abbrev around : Routine → Context
+  around (routine ps ls c v) = of_sequent (context_of (declared ds)) (record { logical = []; memories = []; modules = []; hyps = []; conclusion = v }) []
 
-  typed : (t : Term) (p : ProcRef) (a : Proc) → procedure_of ds p ≡ Some a → IsProcedure (around t) a
-  typed t p a e = let x = typed_there ds scoped (record { logical = []; memories = []; modules = []; hyps = []; conclusion = t }) tt [] p a e in x.typed
+  typed : (r : Routine) (p : ProcRef) (a : Proc) → procedure_of ds p ≡ Some a → IsProcedure (around r) a
+  typed (routine ps ls c v) p a e = let x = typed_there ds scoped (record { logical = []; memories = []; modules = []; hyps = []; conclusion = v }) tt [] p a e in x.typed
 
   module _ (m n : Map) where
     abbrev G : Key → Type 0
@@ -72,10 +72,7 @@ module _ (ds : scope.Declarations) (scoped : IsTypedScope (declared ds)) (g : Se
         (vs : List Value) → Zip (SameOutcome m n) (outcomes g r vs m) (outcomes g r vs n)
     alike p S d xs c v r e vs =
         let reach = all_closed ds (p ∷ []) S d in
-        let i = reach.there p (inl refl) in
-        let there = read_each g ds G S xs c v in
-        let x = there p i in
-        let covers = routine_good g ds (around x.found.value) (typed x.found.value) (meant ds scoped g over) S reach.closed G there r p i e in
+        let covers = routine_good g ds (around r) (typed r) (means_there ds scoped g over) S reach.closed G (read_each g ds G S xs c v) r p (reach.there p (inl refl)) e in
         routine_depends g r vs m n (λ k ty i. ap (fit g.types ty) (covers (record { key = global k; ty = ty }) i))
 
     pub reads_alike : (p : ProcRef) (xs : List Var) → read ds p ≡ Some xs → (r : Routine) → g.procedure p ≡ Some r → HoldSame g.types xs m n → (vs : List Value) →

@@ -12,7 +12,9 @@ use Rattle.gb_terms.specs.declared.module.ProcRef.{ProcRef}
 use Rattle.gb_goal.specs.Instances.{name_of}
 use Rattle.gb_goal.specs.Interfaces.{Interface, ProcedureType, given, interface_at, interfaces_at, lacking, left_over, of_complete, of_module, procedure_in, procedure_type, procedure_types, type_of_procedure}
 use Rattle.gb_goal.specs.Scope as scope
-use Rattle.gb_goal.specs.Scope.{module_of, proc_of, procedure_of}
+use Rattle.gb_goal.specs.Scope.{as_module, entry_of, module_of, proc_of, procedure_of}
+use Rattle.gb_goal.specs.declared.scope.Entry.{Entry as Declaration}
+use Rattle.gb_goal.specs.declared.scope.Entry.TheVariants as entry
 use Rattle.gb_goal.proofs.Interfaces.{declared_types}
 use Rattle.gb_meaning.specs.Names.{Name}
 use Rattle.gb_holds.specs.Declared.{declared}
@@ -31,15 +33,17 @@ use Rattle.gb_typing.proofs.ModulesAlike.{footprint-looks}
 use Rattle.gb_typing.proofs.Scripts.{itself, none_some, same_some}
 use Rattle.gb_typing.proofs.ScopesAlike.{script_alike}
 use Rattle.gb_mods.specs.Called.{added, called, called_by, calls, is_among, reached}
-use Rattle.gb_mods.specs.Footprint.{are_declared, footprint_of, reference, references, touched, touched_if}
+use Rattle.gb_mods.specs.Footprint.{are_known, footprint_of, reference, references, touched, touched_if}
 use Rattle.gb_mods.specs.Footprint as computed
+use Rattle.gb_mods.specs.Meant.{meant_by}
 use Rattle.gb_mods.specs.Order.{joined}
-use Rattle.gb_mods.specs.Touched.{each_touched, touched_itself}
+use Rattle.gb_mods.specs.Touched.{each_touched, touched_in, touched_itself}
 use Rattle.gb_mods.proofs.Closed.{IsIn, AreReached, all_closed}
 use Rattle.gb_mods_laws.specs.Members.{Has}
 use Rattle.gb_mods_laws.proofs.Bodies.{called_body, each_call, own_body, split_body}
 use Rattle.gb_mods_laws.proofs.FinalModules.{Final, final_module}
 use Rattle.gb_mods_laws.proofs.Members.{either, has_behind, has_either, has_front, in_joined, in_ordered, joined_has, kept, ordered_has, was_there, IsGlobal}
+use Rattle.gb_mods_laws.proofs.MeantAlone.{meant_alone, meant_there, of_found}
 use Rattle.gb_mods_laws.proofs.Ranks.{falls, rank}
 use Rattle.gb_mods_laws.proofs.ReadProcedures.{read_there}
 
@@ -59,7 +63,7 @@ module _ (ds : scope.Declarations) (scoped : IsTypedScope (declared ds)) (alone 
       (was_there (body_touched (procedure_at all) p.body.list ++ variables p.value) z (in_ordered _ z (subst (λ xs. Has xs z) (reaches_is r p e) h))).0
 
   reaches_split : (r : ProcRef) (p : Proc) → procedure_of ds r ≡ Some p → (z : Var) → Has (reaches r) z →
-      Has (touched_itself (Some p)) z ⊎ ((q : ProcRef) × IsIn (calls p.body.list) q × Has (reaches q) z)
+      Has (touched_in p) z ⊎ ((q : ProcRef) × IsIn (calls p.body.list) q × Has (reaches q) z)
   reaches_split r p e z h =
       let k = was_there (body_touched (procedure_at all) p.body.list ++ variables p.value) z (in_ordered _ z (subst (λ xs. Has xs z) (reaches_is r p e) h)) in
       either
@@ -72,7 +76,7 @@ module _ (ds : scope.Declarations) (scoped : IsTypedScope (declared ds)) (alone 
   reaches_body r p e z g h =
       subst (λ xs. Has xs z) (sym (reaches_is r p e)) (ordered_has _ z (kept (body_touched (procedure_at all) p.body.list ++ variables p.value) z g h))
 
-  reaches_own : (r : ProcRef) (p : Proc) → procedure_of ds r ≡ Some p → (z : Var) → Has (touched_itself (Some p)) z → Has (reaches r) z
+  reaches_own : (r : ProcRef) (p : Proc) → procedure_of ds r ≡ Some p → (z : Var) → Has (touched_in p) z → Has (reaches r) z
   reaches_own r p e z h =
       let k = was_there (each_touched p.body.list ++ variables p.value) z h in
       reaches_body r p e z k.0
@@ -85,16 +89,16 @@ module _ (ds : scope.Declarations) (scoped : IsTypedScope (declared ds)) (alone 
       reaches_body r p e z (reaches_global q f.0 f.1 z h) (has_front (body_touched (procedure_at all) p.body.list) (variables p.value) z (called_body (procedure_at all) z p.body.list q h c))
 
   -- what reached procedures touch themselves
-  touched_by : (qs : List ProcRef) (r : ProcRef) (p : Proc) → procedure_of ds r ≡ Some p → IsIn qs r → (z : Var) → Has (touched_itself (Some p)) z → Has (touched ds qs) z
+  touched_by : (qs : List ProcRef) (r : ProcRef) (p : Proc) → procedure_of ds r ≡ Some p → IsIn qs r → (z : Var) → Has (touched_in p) z → Has (touched ds qs) z
   touched_by [] r p e i z h = absurd i
   touched_by (q ∷ qs) r p e (inl s) z h =
-      has_front (touched_itself (procedure_of ds q)) (touched ds qs) z (subst (λ o. Has (touched_itself o) z) (sym (ap (procedure_of ds) s ∙ e)) h)
-  touched_by (q ∷ qs) r p e (inr i) z h = has_behind (touched_itself (procedure_of ds q)) (touched ds qs) z (touched_by qs r p e i z h)
+      has_front (touched_itself (meant_by ds q)) (touched ds qs) z (subst (λ m. Has (touched_itself m) z) (sym (ap (meant_by ds) s ∙ meant_there ds r p e)) h)
+  touched_by (q ∷ qs) r p e (inr i) z h = has_behind (touched_itself (meant_by ds q)) (touched ds qs) z (touched_by qs r p e i z h)
 
-  by_one : (qs : List ProcRef) (z : Var) → Has (touched ds qs) z → (q : ProcRef) × IsIn qs q × Has (touched_itself (procedure_of ds q)) z
+  by_one : (qs : List ProcRef) (z : Var) → Has (touched ds qs) z → (q : ProcRef) × IsIn qs q × Has (touched_itself (meant_by ds q)) z
   by_one [] z h = absurd h
   by_one (q ∷ qs) z h =
-      either (λ k. (q, inl refl, k)) (λ k. let o = by_one qs z k in (o.0, inr o.1, o.2)) (has_either (touched_itself (procedure_of ds q)) (touched ds qs) z h)
+      either (λ k. (q, inl refl, k)) (λ k. let o = by_one qs z k in (o.0, inr o.1, o.2)) (has_either (touched_itself (meant_by ds q)) (touched ds qs) z h)
 
   -- what a reached procedure touches in the meaning, reached ones touch themselves
   deep : (d : ℕ) (ps qs : List ProcRef) → AreReached ds ps qs → (r : ProcRef) (p : Proc) → procedure_of ds r ≡ Some p → rank ds scoped alone r < d → IsIn qs r → (z : Var) → Has (reaches r) z → Has (touched ds qs) z
@@ -105,17 +109,17 @@ module _ (ds : scope.Declarations) (scoped : IsTypedScope (declared ds)) (alone 
       let k = falls ds scoped alone r p e t.0 t.1 in
       let m : rank ds scoped alone t.0 < d = omega (arith, k, l) in
       let c = closed.closed in
-      deep d ps qs closed t.0 f.0 f.1 m (c r i t.0 (subst (λ o. IsIn (called_by o) t.0) (sym e) t.1)) z t.2)
+      deep d ps qs closed t.0 f.0 f.1 m (c r i t.0 (subst (λ m. IsIn (called_by m) t.0) (sym (meant_there ds r p e)) t.1)) z t.2)
       (reaches_split r p e z h)
 
   -- What is so of procedures, and of each that one of which it is so calls, is so of all that they reach.
-  module _ (P : ProcRef → Type 0) (on : (r q : ProcRef) → P r → IsIn (called_by (procedure_of ds r)) q → P q) where
+  module _ (P : ProcRef → Type 0) (on : (r q : ProcRef) → P r → IsIn (called_by (meant_by ds r)) q → P q) where
     abbrev All : List ProcRef → Type 0
     All ps = (q : ProcRef) → IsIn ps q → P q
 
     all_called : (ps : List ProcRef) → All ps → All (called ds ps)
     all_called [] h q i = absurd i
-    all_called (p ∷ ps) h q i = step (called_by (procedure_of ds p)) (λ k. on p q (h p (inl refl)) k) (all_called ps (λ x k. h x (inr k)) q) i
+    all_called (p ∷ ps) h q i = step (called_by (meant_by ds p)) (λ k. on p q (h p (inl refl)) k) (all_called ps (λ x k. h x (inr k)) q) i
       where
         step : (xs : List ProcRef) → (IsIn xs q → P q) → (IsIn (called ds ps) q → P q) → IsIn (xs ++ called ds ps) q → P q
         step [] f g j = g j
@@ -208,11 +212,11 @@ module _ (ds : scope.Declarations) (scoped : IsTypedScope (declared ds)) (alone 
   first_is [] p after f = ap (λ b. if b then Some p else proc_of after p.name) (itself p.name)
   first_is (x ∷ front) p after f = ap (λ b. if b then Some x else proc_of (front ++ p ∷ after) p.name) f.0 ∙ first_is front p after f.1
 
-  referred : (x : Mexp) (front : List Proc) (p : Proc) (after : List Proc) → IsIn (references x (front ++ p ∷ after)) (reference x p)
+  referred : (x : Mexp) (front : List Proc) (p : Proc) (after : List Proc) → IsIn (references x (front ++ p ∷ after)) (reference x p.name)
   referred x [] p after = inl refl
   referred x (q ∷ front) p after = inr (referred x front p after)
 
-  referring : (x : Mexp) (ps : List Proc) (r : ProcRef) → IsIn (references x ps) r → (p : Proc) × (reference x p ≡ r)
+  referring : (x : Mexp) (ps : List Proc) (r : ProcRef) → IsIn (references x ps) r → (p : Proc) × (reference x p.name ≡ r)
   referring x [] r h = absurd h
   referring x (p ∷ ps) r (inl e) = (p, e)
   referring x (p ∷ ps) r (inr h) = referring x ps r h
@@ -266,11 +270,11 @@ module _ (ds : scope.Declarations) (scoped : IsTypedScope (declared ds)) (alone 
     IsMeant : ProcRef → Type 0
     IsMeant r = (z : Var) → Has (reaches r) z → Has meaning z
 
-    called_meant : (r q : ProcRef) → IsMeant r → IsIn (called_by (procedure_of ds r)) q → IsMeant q
+    called_meant : (r q : ProcRef) → IsMeant r → IsIn (called_by (meant_by ds r)) q → IsMeant q
     unfolding IsMeant
-    called_meant r q k i z h = step (procedure_of ds r) refl i
+    called_meant r q k i z h = step (procedure_of ds r) refl (subst (λ m. IsIn (called_by m) q) (meant_alone ds alone r) i)
       where
-        step : (o : Option Proc) → procedure_of ds r ≡ o → IsIn (called_by o) q → Has meaning z
+        step : (o : Option Proc) → procedure_of ds r ≡ o → IsIn (called_by (of_found o)) q → Has meaning z
         step None e j = absurd j
         step (Some p) e j = k z (reaches_called r p e q j z h)
 
@@ -280,7 +284,7 @@ module _ (ds : scope.Declarations) (scoped : IsTypedScope (declared ds)) (alone 
         let k = referring x m.procs r j in
         meaning_has z (found_has (module_at all x []) k.0.name z (subst (λ q. Has (reaches q) z) (sym k.1) h))
 
-    declared_one : (q : ProcRef) (z : Var) (o : Option Proc) → procedure_of ds q ≡ o → Has (touched_itself o) z → (p : Proc) × (procedure_of ds q ≡ Some p) × Has (touched_itself (Some p)) z
+    declared_one : (q : ProcRef) (z : Var) (o : Option Proc) → procedure_of ds q ≡ o → Has (touched_itself (of_found o)) z → (p : Proc) × (procedure_of ds q ≡ Some p) × Has (touched_in p) z
     declared_one q z None e h = absurd h
     declared_one q z (Some p) e h = (p, e, h)
 
@@ -288,38 +292,42 @@ module _ (ds : scope.Declarations) (scoped : IsTypedScope (declared ds)) (alone 
     unfolding IsMeant
     reached_meant qs f z h =
         let o = by_one qs z h in
-        let p = declared_one o.0 z (procedure_of ds o.0) refl o.2 in
+        let p = declared_one o.0 z (procedure_of ds o.0) refl (subst (λ m. Has (touched_itself m) z) (meant_alone ds alone o.0) o.2) in
         all_reached IsMeant called_meant (2 ^ 32) 0 start qs first_meant f o.0 o.1 z (reaches_own o.0 p.0 p.1 z p.2)
+
+    entry_there : (o : Option Declaration) (k : Module) → as_module o ≡ Some k → o ≡ Some (entry.Module k)
+    entry_there (Some (entry.Module j)) k e = ap (λ (z : Module). Some (entry.Module z)) (same_some j k e)
+    entry_there _ k e = none_some k e
 
     -- what is computed are the variables of all procedures that are reached
     computed_is : (xs : List Var) → computed.footprint ds x ≡ Some xs → (qs : List ProcRef) × ((reached (2 ^ 32) (called ds) 0 start ≡ Some qs) × (joined (touched ds qs) [] ≡ xs))
     unfolding computed.footprint
-    computed_is xs e = by_reach (reached (2 ^ 32) (called ds) 0 start) refl (subst (λ o. footprint_of ds x o ≡ Some xs) known.there e)
+    computed_is xs e = by_reach (reached (2 ^ 32) (called ds) 0 start) refl (subst (λ o. footprint_of ds x o ≡ Some xs) (entry_there (entry_of ds (name_of x)) m known.there) e)
       where
         all_there : (b : Bool) (qs : List ProcRef) → (if b then Some (joined (touched ds qs) []) else None) ≡ Some xs → joined (touched ds qs) [] ≡ xs
         all_there true qs h = same_some (joined (touched ds qs) []) xs h
         all_there false qs h = none_some xs h
 
-        by_reach : (o : Option (List ProcRef)) → reached (2 ^ 32) (called ds) 0 start ≡ o → touched_if ds o ≡ Some xs →
+        by_reach : (o : Option (List ProcRef)) → reached (2 ^ 32) (called ds) 0 start ≡ o → touched_if ds [] o ≡ Some xs →
             (qs : List ProcRef) × ((reached (2 ^ 32) (called ds) 0 start ≡ Some qs) × (joined (touched ds qs) [] ≡ xs))
         by_reach None f g = none_some xs g
-        by_reach (Some qs) f g = (qs, (f, all_there (are_declared ds qs) qs g))
+        by_reach (Some qs) f g = (qs, (f, all_there (are_known ds qs) qs g))
 
     -- what is computed is meant
     pub computed_meant : (xs : List Var) → computed.footprint ds x ≡ Some xs → (z : Var) → Has xs z → Has meaning z
     computed_meant xs e z h = let c = computed_is xs e in reached_meant c.0 c.1.0 z (in_joined (touched ds c.0) z (subst (λ ys. Has ys z) (sym c.1.1) h))
 
     -- each procedure of the module is a declared one, with the arguments
-    declared_at : (front : List Proc) (p : Proc) (after : List Proc) → m.procs ≡ front ++ p ∷ after → IsFreshAmong front p.name → (a : Proc) × (procedure_of ds (reference x p) ≡ Some a)
-    declared_at front p after place fresh = step (procedure_of ds (reference x p)) refl
+    declared_at : (front : List Proc) (p : Proc) (after : List Proc) → m.procs ≡ front ++ p ∷ after → IsFreshAmong front p.name → (a : Proc) × (procedure_of ds (reference x p.name) ≡ Some a)
+    declared_at front p after place fresh = step (procedure_of ds (reference x p.name)) refl
       where
-        typed : procedure_type ds None (reference x p) ≡ Some (type_of_procedure p)
+        typed : procedure_type ds None (reference x p.name) ≡ Some (type_of_procedure p)
         typed =
             ap (λ o. procedure_in o p.name) there ∙ ap (λ ps. of_complete ps i.procedures p.name) full ∙ ap (λ ps. found ps p.name) known.types
             ∙ found_first m.procs p.name p (ap (λ ps. proc_of ps p.name) place ∙ first_is front p after fresh)
 
-        step : (o : Option Proc) → procedure_of ds (reference x p) ≡ o → (a : Proc) × (procedure_of ds (reference x p) ≡ Some a)
-        step None e = none_some (type_of_procedure p) (sym (declared_types ds (modules_alone ds alone) (reference x p) ∙ ap (option_map type_of_procedure) e) ∙ typed)
+        step : (o : Option Proc) → procedure_of ds (reference x p.name) ≡ o → (a : Proc) × (procedure_of ds (reference x p.name) ≡ Some a)
+        step None e = none_some (type_of_procedure p) (sym (declared_types ds (modules_alone ds alone) (reference x p.name) ∙ ap (option_map type_of_procedure) e) ∙ typed)
         step (Some a) e = (a, e)
 
     -- the module in the meaning
@@ -343,7 +351,7 @@ module _ (ds : scope.Declarations) (scoped : IsTypedScope (declared ds)) (alone 
             let t = l.typed in
             let fresh = fresh_types [] y.front p.name (fresh_at l.around m [] y.front p y.after (subst (AreProcedures l.around m []) y.place t.procs)) in
             let v = in_module footprint_read l.env m y.front y.after p y.place fresh args in
-            let r = reference x p in
+            let r = reference x p.name in
             let there_is : procedure_at all r ≡ Some (footprint_read (procedure_at (with_params (with_module l.env m.name (with_procedures footprint_read l.env m no_module y.front)) m.params args)) p) =
             ap (λ ps. found ps p.name) applied_is ∙ v in
             let a = declared_at y.front p y.after y.place fresh in

@@ -16,7 +16,7 @@ use Rattle.gb_terms.specs.declared.op.Read.TheVariants.{Logical, Program}
 use Rattle.gb_terms.specs.declared.term.Term.{Term}
 use Rattle.gb_walk.specs.declared.change.Change.TheVariants.{ToTerm}
 use Rattle.gb_walk.specs.Change.{term_changed}
-use Rattle.gb_walk.specs.Clash.{comes_before, first_clash, least_from}
+use Rattle.gb_walk.specs.Clash.{Exclusions, comes_before, first_clash, least_from}
 use Rattle.gb_meaning.specs.Memory.{Memory, assigned, write, write_each}
 use Rattle.gb_meaning.specs.Meanings.{truth, value_in}
 use Rattle.gb_meaning.specs.Runs.{valued}
@@ -41,7 +41,7 @@ use Rattle.gb_typing.proofs.Clashes.{left_of_no_clash}
 use Rattle.gb_typing.proofs.Fitting.{fits_reframed}
 use Rattle.gb_typing.proofs.Puts.{substituted_typed}
 use Rattle.gb_typing.proofs.Substituted.{reads_any, substituted}
-use Rattle.gb_typing.specs.Forms.{IsAlone, located}
+use Rattle.gb_typing.specs.Forms.{IsAlone, IsKeptOff, located}
 use Rattle.gb_typing.proofs.Assigned.{located_put}
 use Rattle.gb_typing.proofs.ClashFree.{one_clear}
 use Rattle.gb_typing.proofs.InMemory.{located_value}
@@ -99,22 +99,22 @@ changes_are r v (x ∷ xs) (e ∷ es) =
 
 -- No clash.
 
-abbrev pub NoClash : Side → Term → List Var → Type 0
-NoClash r f [] = Unit {0}
-NoClash r f (x ∷ xs) = (first_clash r x f ≡ None) × NoClash r f xs
+abbrev pub NoClash : Exclusions → Side → Term → List Var → Type 0
+NoClash es r f [] = Unit {0}
+NoClash es r f (x ∷ xs) = (first_clash es r x f ≡ None) × NoClash es r f xs
 
-none_found : (r : Side) (f : Term) (xs : List Var) → clashing r xs f ≡ None → NoClash r f xs
-none_found r f [] e = tt
-none_found r f (x ∷ xs) e = at (none_found r f xs) (first_clash r x f) refl e
+none_found : (es : Exclusions) (r : Side) (f : Term) (xs : List Var) → clashing es r xs f ≡ None → NoClash es r f xs
+none_found es r f [] e = tt
+none_found es r f (x ∷ xs) e = at (none_found es r f xs) (first_clash es r x f) refl e
   where
     found_some : {P : Type 0} (y : Var) (ys : List Var) → least_from (Some y) ys ≡ None → P
     found_some y [] e = absurd (false≢true (sym (ap is_some e)))
     found_some y (z ∷ ys) e = found_some (if comes_before z y then z else y) ys e
 
-    at : (clashing r xs f ≡ None → NoClash r f xs) → (o : Option Var) → first_clash r x f ≡ o → least_from None (if is_some o then x ∷ filter (is_clashing r f) xs else filter (is_clashing r f) xs) ≡ None →
-        (first_clash r x f ≡ None) × NoClash r f xs
+    at : (clashing es r xs f ≡ None → NoClash es r f xs) → (o : Option Var) → first_clash es r x f ≡ o → least_from None (if is_some o then x ∷ filter (is_clashing es r f) xs else filter (is_clashing es r f) xs) ≡ None →
+        (first_clash es r x f ≡ None) × NoClash es r f xs
     at rest None k e = (k, rest e)
-    at rest (Some y) k e = found_some x (filter (is_clashing r f) xs) e
+    at rest (Some y) k e = found_some x (filter (is_clashing es r f) xs) e
 
 abbrev pub EachAlone : Setting → (Var → Bool) → List Var → Type 0
 EachAlone g P [] = Unit {0}
@@ -134,19 +134,19 @@ in_both P Q binds_own = refl
 in_both P Q binds_sides = refl
 
 -- the form reads variables alone among which none clashes with one of these, but itself
-pub all_clear : (c : Context) (f : Term) → IsTyped c f → (r : Side) → IsSide r → (xs : List Var) → NoClash r f xs →
-    (P : Readable) × IsWithin (reading P) f × ((g : Setting) → EachAlone g (P r) xs)
-all_clear c f w r i [] n = (every_variable, reads_any c f w, λ g. tt)
-all_clear c f w r i (x ∷ xs) n =
-    let one = one_clear c f w r i x n.0 in
-    let rest = all_clear c f w r i xs n.1 in
+pub all_clear : (es : Exclusions) (c : Context) (f : Term) → IsTyped c f → (r : Side) → IsSide r → (xs : List Var) → NoClash es r f xs →
+    (P : Readable) × IsWithin (reading P) f × ((g : Setting) → IsKeptOff es g → EachAlone g (P r) xs)
+all_clear es c f w r i [] n = (every_variable, reads_any c f w, λ g k. tt)
+all_clear es c f w r i (x ∷ xs) n =
+    let one = one_clear es c f w r i x n.0 in
+    let rest = all_clear es c f w r i xs n.1 in
     let P : Readable = one.0 in
     let Q : Readable = rest.0 in (
       λ s y. P s y && Q s y,
       subst (λ (K : Uses). IsWithin K f) (λ k u. in_both P Q u k) (within_both (reading P) (reading Q) f one.1 rest.1),
-      λ g. (
-        (λ y p d. one.2 g y (and_parts (P r y) (Q r y) p).0 d),
-        fewer g (λ y. P r y && Q r y) (Q r) (λ y p. (and_parts (P r y) (Q r y) p).1) xs (rest.2 g),
+      λ g k. (
+        (λ y p d. one.2 g k y (and_parts (P r y) (Q r y) p).0 d),
+        fewer g (λ y. P r y && Q r y) (Q r) (λ y p. (and_parts (P r y) (Q r y) p).1) xs (rest.2 g k),
       ),
     )
 
@@ -207,11 +207,11 @@ module _ (c : Context) (ls : List TypedName) (F L K : Frame) (r : Side) (i : IsS
     taken_values (x ∷ y ∷ xs) e w t l = ap (write_each g.types (memory_of s r) (x ∷ y ∷ xs)) (parts_values g s (memory_of s r) c ls fits e x (y ∷ xs) w t l)
 
     -- it says what the form says after the assignment
-    pub assigned_meaning : (xs : List Var) (e : Term) → IsValued c ls e → Take (erased c) ls xs (type_of e) → length xs < 9 → (f : Term) → IsForm d f → clashing r xs f ≡ None →
+    pub assigned_meaning : (es : Exclusions) → IsKeptOff es g → (xs : List Var) (e : Term) → IsValued c ls e → Take (erased c) ls xs (type_of e) → length xs < 9 → (f : Term) → IsForm d f → clashing es r xs f ≡ None →
         den g j (assigned_form r xs e f) s ≡ den g j f (with_side s r (assigned g.types (memory_of s r) xs (valued g s e (memory_of s r))))
-    assigned_meaning xs e w t l f u n =
-        let y = all_clear d f u.typed r i xs (none_found r f xs n) in
+    assigned_meaning es off xs e w t l f u n =
+        let y = all_clear es d f u.typed r i xs (none_found es r f xs n) in
         let k = are_taken xs e w t l in
         ap (λ cs. den g j (term_changed f cs) s) (sym (changes_are r given xs (taken xs e)))
-        ∙ ap truth (substituted d g (fits_reframed c g fits F L K) j fair y.0 f u.typed y.1 s fit (writes r given xs (taken xs e)) (each_write y.0 xs (taken xs e) k (y.2 g)))
+        ∙ ap truth (substituted d g (fits_reframed c g fits F L K) j fair y.0 f u.typed y.1 s fit (writes r given xs (taken xs e)) (each_write y.0 xs (taken xs e) k (y.2 g off)))
         ∙ ap (den g j f) (ends s given xs (taken xs e) k ∙ ap (with_side s r) (taken_values xs e w t l))

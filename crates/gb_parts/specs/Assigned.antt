@@ -12,7 +12,7 @@ use Rattle.gb_terms.specs.declared.term.Head.TheVariants as head
 use Rattle.gb_terms.specs.Make.{applied}
 use Rattle.gb_walk.specs.declared.change.Change.TheVariants.{ToTerm}
 use Rattle.gb_walk.specs.Change.{Changes, term_changed}
-use Rattle.gb_walk.specs.Clash.{first_clash, least}
+use Rattle.gb_walk.specs.Clash.{Exclusions, first_clash, least}
 use Rattle.gb_typing.specs.Forms.{located}
 
 -- the part of a tuple with this number, of this type
@@ -56,9 +56,9 @@ abbrev pub assigned_form : Side → List Var → Term → Term → Term
 assigned_form r xs e f = term_changed f (put_in r xs (taken xs e))
 
 -- whether a form reads another variable that clashes with this one
-abbrev pub is_clashing : Side → Term → Var → Bool
-is_clashing r f x = is_some (first_clash r x f)
+abbrev pub is_clashing : Exclusions → Side → Term → Var → Bool
+is_clashing es r f x = is_some (first_clash es r x f)
 
 -- the least of these variables with which another one clashes that the form reads
-abbrev pub clashing : Side → List Var → Term → Option Var
-clashing r xs f = least (filter (is_clashing r f) xs)
+abbrev pub clashing : Exclusions → Side → List Var → Term → Option Var
+clashing es r xs f = least (filter (is_clashing es r f) xs)

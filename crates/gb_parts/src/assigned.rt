@@ -14,7 +14,7 @@ use gb_terms::op::{Op, Read, Side};
 use gb_terms::share::share_terms;
 use gb_terms::term::{Form, Head, Term, Terms};
 use gb_walk::change::{Change, Changes};
-use gb_walk::clash::{first_clash, lesser};
+use gb_walk::clash::{Excluded, first_clash, lesser};
 use gb_walk::walk::changed;
 use sqlite_items::Items;
 use std::alloc::{AllocError, Global};
@@ -122,12 +122,17 @@ pub fn assigned_form(
 }
 
 /// The least of these variables with which another one clashes that the form reads.
-pub fn clashing<'a>(side: Side, targets: &'a [Var], form: &Form) -> Option<&'a Var>
-    ensures { option_copied result ≡ clashing side targets.now form.now }
+pub fn clashing<'a>(
+    exclusions: &[Excluded],
+    side: Side,
+    targets: &'a [Var],
+    form: &Form,
+) -> Option<&'a Var>
+    ensures { option_copied result ≡ clashing exclusions.now side targets.now form.now }
 {
     let mut found = None;
     for target in targets {
-        if first_clash(&side, target, form).is_some() {
+        if first_clash(exclusions, &side, target, form).is_some() {
             found = lesser(found, target);
         }
     }

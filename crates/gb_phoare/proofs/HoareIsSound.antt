@@ -6,7 +6,6 @@ use Rattle.gb_core.specs.declared.refusal.Why.TheVariants.{Shape, NotLossless}
 use Rattle.gb_core.specs.declared.ty.Ty.TheVariants as ty
 use Rattle.gb_coupling.specs.WeightedList.{total, Every}
 use Rattle.gb_coupling.proofs.Entries.{Every-weaken}
-use Rattle.gb_coupling.proofs.Masses.{mass-dmap}
 use Rattle.gb_terms.specs.declared.decl.TypedName.{TypedName}
 use Rattle.gb_terms.specs.declared.module.ProcRef.{ProcRef}
 use Rattle.gb_terms.specs.declared.op.Rel.TheVariants.{AtMost, Equal, AtLeast}
@@ -15,14 +14,14 @@ use Rattle.gb_meaning.specs.Commands.{statements}
 use Rattle.gb_meaning.specs.Fractions.{Fraction}
 use Rattle.gb_meaning.specs.Meanings.{fraction_in}
 use Rattle.gb_meaning.specs.Memory.{Memory}
-use Rattle.gb_meaning.specs.Program.Routine.{routine}
 use Rattle.gb_meaning.specs.Setting.{Setting}
 use Rattle.gb_meaning.specs.Setting.Meaning.{fraction}
 use Rattle.gb_meaning.specs.State.{State, at}
 use Rattle.gb_meaning.specs.Terms.{val}
-use Rattle.gb_meaning.specs.Judgments.{Judge, IsFair, speaking, IsTrueUnder, den, chance, compares}
+use Rattle.gb_meaning.specs.Judgments.{IsSoundIfThere, Judge, IsFair, from_frame, outcome_denominator, speaking, IsTrueUnder, den, chance, compares}
+use Rattle.gb_meaning.specs.Runs.{parameter_values}
 use Rattle.gb_meaning.specs.Written.{type_of}
-use Rattle.gb_meaning.proofs.Runs.{run_positive}
+use Rattle.gb_meaning.proofs.Runs.{routine_positive, run_positive}
 use Rattle.gb_meaning.proofs.Truths.{true_not}
 use Rattle.gb_holds.specs.Declared.{declared}
 use Rattle.gb_goal.specs.declared.sequent.Sequent.{Sequent}
@@ -32,21 +31,18 @@ use Rattle.gb_goal.specs.Goal.{Code, Goal}
 use Rattle.gb_goal.specs.Goal.Code.{body, procedure}
 use Rattle.gb_goal.specs.Goal.Goal.{hoare, phoare, equiv, ambient}
 use Rattle.gb_goal.specs.Scope.{Declarations}
+use Rattle.gb_typing.specs.Context as context
 use Rattle.gb_typing.specs.Context.{Context, with_own}
 use Rattle.gb_typing.specs.Fits.{IsSettingOf, IsStateOf}
-use Rattle.gb_typing.specs.Programs.{locals_of}
 use Rattle.gb_typing.specs.Scopes.{context_of, IsTypedScope}
 use Rattle.gb_typing.specs.Sequents.{of_sequent, IsTypedSequent}
-use Rattle.gb_typing.specs.Typing.{IsTyped}
+use Rattle.gb_typing.specs.Typing.{IsThere, IsTyped}
 use Rattle.gb_typing.proofs.Drawing.{body_sound}
-use Rattle.gb_typing.proofs.LinkedProcedures.{linked_there}
-use Rattle.gb_typing.proofs.Located.{IsTypedThere, typed_there}
-use Rattle.gb_typing.specs.Calls.{start, ended}
+use Rattle.gb_typing.proofs.Sound.{procedures_sound}
 use Rattle.gb_typing.specs.Forms.{not_form}
-use Rattle.gb_typing.specs.Meaning.{run, run_of, denominator_of}
+use Rattle.gb_typing.specs.Meaning.{run_of, denominator_of}
 use Rattle.gb_typing.specs.Rules.{IsSettingOver, ImpliesIn, IsSoundRuleIn, no_arguments, outermost}
 use Rattle.gb_typing.specs.Goals.{IsCode, IsGoalOver, IsTypedGoal, frame_after}
-use Rattle.gb_typing.proofs.Called.{called_run, called_denominator}
 use Rattle.gb_typing.proofs.Forms.{not_typed}
 use Rattle.gb_typing.proofs.Given.{refused_given, sound_given_in}
 use Rattle.gb_parts.specs.Compared.{literal}
@@ -73,25 +69,16 @@ module _ (ds : Declarations) (scoped : IsTypedScope (declared ds)) (q : Sequent)
       pub positive : 0 < denominator_of g a
       pub total : total (run_of g s a m) ≡ denominator_of g a
 
-    whole_procedure : (s : State) (r : ProcRef) (m : Memory) → IsWholeProcedure ds scoped q t g fits over r → IsWhole s (procedure r) m
-    whole_procedure s r m x =
-        let a = x.found in
-        let there : IsTypedThere c r a = typed_there ds scoped q t.modules t.frames r a x.declared in
-        let linked : g.procedure r ≡ Some (routine a.params a.locals (statements g a.body.list) a.value) =
-        subst (λ h. h.procedure r ≡ Some (routine a.params a.locals (statements h a.body.list) a.value)) (sym over.meant)
-        (linked_there ds scoped over.interpretation over.chosen r a x.declared) in
-        let typed = there.typed in
-        let list = typed.body in
-        record {
-          positive = subst (λ n. 0 < n) (sym (called_denominator c g r a typed linked)) (run_positive g (statements g a.body.list) (body_sound c g fits (locals_of a) a.body.list list.statements));
-          total = ap total (called_run c g r a typed linked s m) ∙ mass-dmap (ended g a) (run g s a.body.list (start g a m)) (λ n. 1)
-              ∙ x.total s (start g a m) ∙ sym (called_denominator c g r a typed linked);
-        }
+    whole_procedure : (s : State) (r : ProcRef) (m : Memory) → IsThere (context.procedure c r) → IsWholeProcedure ds scoped q t g fits over r → IsWhole s (procedure r) m
+    whole_procedure s r m w x = record {
+      positive = subst (λ o. 0 < outcome_denominator g o) (sym x.there) (routine_positive g x.found (subst (IsSoundIfThere g) x.there (procedures_sound c g fits r w)));
+      total = subst (λ o. total (from_frame g o m) ≡ outcome_denominator g o) (sym x.there) (x.total (parameter_values g x.found m) m.globals);
+    }
 
     whole : (s : State) (ls : List TypedName) (a : Code) → IsCode c ls a → code_loss ds a ≡ nowhere → (m : Memory) → IsWhole s a m
     whole s ls (body is) w k m =
         record { positive = run_positive g (statements g is) (body_sound c g fits ls is w.statements); total = total_full ds scoped q t g fits over ls is w k s m }
-    whole s ls (procedure r) w k m = whole_procedure s r m (procedure_whole ds scoped q t g fits over r k)
+    whole s ls (procedure r) w k m = whole_procedure s r m w (procedure_whole ds scoped q t g fits over r k)
 
   module _ (outer : c ≡ outermost c) (ls rs : List TypedName) (a : Code) (p f b : Term) (w : IsTyped (with_own c None) b) (e : type_of b ≡ ty.Real) where
     in_context : IsTyped c b

@@ -57,7 +57,9 @@ use Rattle.gb_holds.specs.Declared.{declared}
 use Rattle.gb_goal.specs.Goal.Code.{body, procedure}
 use Rattle.gb_goal.specs.Goal.Goal.{hoare, phoare, equiv, ambient}
 use Rattle.gb_walk.specs.Clash.{first_clash}
-use Rattle.gb_typing.specs.Forms.{IsAlone}
+use Rattle.gb_typing.specs.Forms.{IsAlone, IsKeptOff}
+use Rattle.gb_mods.specs.Exclusions.{exclusions}
+use Rattle.gb_adversaries.proofs.KeptOff.{kept_off}
 use Rattle.gb_typing.specs.Meaning.{run, denominator}
 use Rattle.gb_typing.specs.Programs.{IsBody}
 use Rattle.gb_typing.specs.Rules.{outermost, IsSettingOver, ImpliesIn, IsSoundRuleIn, no_arguments}
@@ -90,7 +92,7 @@ LosesNone ds c = (g : Setting) → IsSettingOf c g → IsSettingOver (declared d
 abbrev AreSoundIn : Declarations → Context → Goal → List Goal → Type 0
 AreSoundIn ds c G Gs = AllByRecursion (IsTypedGoal c) Gs × ImpliesIn (declared ds) c Gs G
 
-module _ (ds : Declarations) (b : Context) (ls : List TypedName) (weighs : LosesNone ds (outermost b)) where
+module _ (ds : Declarations) (scoped : IsTypedScope (declared ds)) (b : Context) (ls : List TypedName) (weighs : LosesNone ds (outermost b)) where
   abbrev c : Context
   c = outermost b
 
@@ -149,7 +151,7 @@ module _ (ds : Declarations) (b : Context) (ls : List TypedName) (weighs : Loses
               ∙ ap (λ l. fraction (pos (weight l (λ v. den g j (with_value x q) (here v))), term_denominator g x.from)) values_are
               ∙ (λ i. fraction (pos (weight_is i), sym (sampling_denominator g x.target x.from) i))
 
-      module _ (r : Rel) (p q t : Term) (w : IsTyped (with_own c None) t) (e : type_of t ≡ ty.Real) (form : IsForm goal q) (clear : first_clash side.Own x.target q ≡ None)
+      module _ (r : Rel) (p q t : Term) (w : IsTyped (with_own c None) t) (e : type_of t ≡ ty.Real) (form : IsForm goal q) (clear : first_clash (exclusions ds) side.Own x.target q ≡ None) (off : IsKeptOff (exclusions ds) g)
           (h : (m : Memory) → IsTrueUnder g j p (at s m) → Every (λ n. IsTrueUnder g j (compared r (measured x q) t) (at s n)) (run g s x.before m)) (m : Memory) (z : IsTrueUnder g j p (at s m)) where
         abbrev bound : Fraction
         bound = fraction_in (val g (speaking g j) t s)
@@ -159,9 +161,9 @@ module _ (ds : Declarations) (b : Context) (ls : List TypedName) (weighs : Loses
 
         each : Every (λ a. compares r (chance (run g s (last_one x) a) (denominator g (last_one x)) event) bound ≡ true) (run g s x.before m)
         each =
-            let k = one_clear goal q form.typed side.Own tt x.target clear in
+            let k = one_clear (exclusions ds) goal q form.typed side.Own tt x.target clear in
             Every-weaken {P = λ n. IsTrueUnder g j (compared r (measured x q) t) (at s n)} (run g s x.before m)
-            (λ a y. sym (compared_is g j (at s a) r (measured x q) t _ bound (measured_is a q form k.0 k.1 (k.2 g)) (bound_is c t w e g fits j fair s fit a)) ∙ y) (h m z)
+            (λ a y. sym (compared_is g j (at s a) r (measured x q) t _ bound (measured_is a q form k.0 k.1 (k.2 g off)) (bound_is c t w e g fits j fair s fit a)) ∙ y) (h m z)
 
         before_positive : 0 < denominator g x.before
         before_positive = run_positive g (statements g x.before) (body_sound c g fits ls x.before (let y = dx.rest in y.statements))
@@ -182,27 +184,27 @@ module _ (ds : Declarations) (b : Context) (ls : List TypedName) (weighs : Loses
             (weighs g fits over ls x.before dx.rest f s m) r bound each)
 
     -- the goal before the sampling implies the goal, where no weight is lost
-    implied_full : (r : Rel) (p q t : Term) (w : IsTyped (with_own c None) t) (e : type_of t ≡ ty.Real) → IsForm goal q → first_clash side.Own x.target q ≡ None → first_loss ds x.before ≡ nowhere →
+    implied_full : (r : Rel) (p q t : Term) (w : IsTyped (with_own c None) t) (e : type_of t ≡ ty.Real) → IsForm goal q → first_clash (exclusions ds) side.Own x.target q ≡ None → first_loss ds x.before ≡ nowhere →
         ImpliesIn (declared ds) c (without_sampling x r p q t ∷ []) (phoare (body is) r p q t)
-    implied_full r p q t w e form clear f g fits over j fair s fit h m z = after_whole g fits j fair s fit r p q t w e form clear h.0 m z over f
+    implied_full r p q t w e form clear f g fits over j fair s fit h m z = after_whole g fits j fair s fit r p q t w e form clear (kept_off ds scoped g over) h.0 m z over f
 
     -- where some may be, and the bound isn't below 0
-    implied_less : (p q t : Term) (w : IsTyped (with_own c None) t) (e : type_of t ≡ ty.Real) → IsForm goal q → first_clash side.Own x.target q ≡ None →
+    implied_less : (p q t : Term) (w : IsTyped (with_own c None) t) (e : type_of t ≡ ty.Real) → IsForm goal q → first_clash (exclusions ds) side.Own x.target q ≡ None →
         ImpliesIn (declared ds) c (without_sampling x AtMost p q t ∷ ambient (compared AtMost zero t) ∷ []) (phoare (body is) AtMost p q t)
     implied_less p q t w e form clear g fits over j fair s fit h m z =
-        whole g fits j fair s fit AtMost p q t w e form clear h.0 m z
+        whole g fits j fair s fit AtMost p q t w e form clear (kept_off ds scoped g over) h.0 m z
         (after_less (run g s x.before m) (λ a. run g s (last_one x) a) (λ n. den g j q (at s n)) (denominator g x.before) (denominator g (last_one x))
-        (before_positive g fits j fair s fit AtMost p q t w e form clear h.0 m z) (last_positive g fits j fair s fit AtMost p q t w e form clear h.0 m z)
+        (before_positive g fits j fair s fit AtMost p q t w e form clear (kept_off ds scoped g over) h.0 m z) (last_positive g fits j fair s fit AtMost p q t w e form clear (kept_off ds scoped g over) h.0 m z)
         (run_bounded g s (statements g x.before) (body_sound c g fits ls x.before (let y = dx.rest in y.statements)) m) (fraction_in (val g (speaking g j) t s))
         (sym (compared_is g j s AtMost zero t (pos 0, 1) _ (number_is g j s (pos 0)) (bound_value c t w e g fits j fair s fit)) ∙ h.1.0)
-        (each g fits j fair s fit AtMost p q t w e form clear h.0 m z))
+        (each g fits j fair s fit AtMost p q t w e form clear (kept_off ds scoped g over) h.0 m z))
 
   module _ (rs : List TypedName) (is : List Instr) (r : Rel) (p q t : Term) (w : IsGoalOver c ls rs (phoare (body is) r p q t)) (Gs : List Goal) where
     before_typed : (x : Sampling) → IsDrawn c ls is x → IsTypedGoal c (without_sampling x r p q t)
     before_typed x dx = (ls, rs, (dx.rest, w.1, compared_typed goal r (measured x q) t (measured_made is x dx q w.2) (bound_made c t w.3 w.4 ls)))
 
   -- where weight may be lost before the sampling
-  less : (rs : List TypedName) (is : List Instr) (p q t : Term) (w : IsGoalOver c ls rs (phoare (body is) AtMost p q t)) (Gs : List Goal) (x : Sampling) → IsDrawn c ls is x → first_clash side.Own x.target q ≡ None →
+  less : (rs : List TypedName) (is : List Instr) (p q t : Term) (w : IsGoalOver c ls rs (phoare (body is) AtMost p q t)) (Gs : List Goal) (x : Sampling) → IsDrawn c ls is x → first_clash (exclusions ds) side.Own x.target q ≡ None →
       given (without_sampling x AtMost p q t ∷ ambient (compared AtMost zero t) ∷ []) ≡ given Gs → AreSoundIn ds c (phoare (body is) AtMost p q t) Gs
   less rs is p q t w Gs x dx clear h =
       subst (AreSoundIn ds c (phoare (body is) AtMost p q t)) (same_given (without_sampling x AtMost p q t ∷ ambient (compared AtMost zero t) ∷ []) Gs h) (
@@ -210,7 +212,7 @@ module _ (ds : Declarations) (b : Context) (ls : List TypedName) (weighs : Loses
         implied_less is x dx p q t w.3 w.4 w.2 clear,
       )
 
-  rest : (rs : List TypedName) (is : List Instr) (r : Rel) (p q t : Term) (w : IsGoalOver c ls rs (phoare (body is) r p q t)) (Gs : List Goal) (x : Sampling) → IsDrawn c ls is x → first_clash side.Own x.target q ≡ None →
+  rest : (rs : List TypedName) (is : List Instr) (r : Rel) (p q t : Term) (w : IsGoalOver c ls rs (phoare (body is) r p q t)) (Gs : List Goal) (x : Sampling) → IsDrawn c ls is x → first_clash (exclusions ds) side.Own x.target q ≡ None →
       (l : Loss) → first_loss ds x.before ≡ l → of_rest l r t (without_sampling x r p q t) ≡ given Gs → AreSoundIn ds c (phoare (body is) r p q t) Gs
   rest rs is r p q t w Gs x dx clear nowhere f h =
       subst (AreSoundIn ds c (phoare (body is) r p q t)) (same_given (without_sampling x r p q t ∷ []) Gs h) ((before_typed rs is r p q t w Gs x dx, tt), implied_full is x dx r p q t w.3 w.4 w.2 clear f)
@@ -224,9 +226,9 @@ module _ (ds : Declarations) (b : Context) (ls : List TypedName) (weighs : Loses
   with_end : (rs : List TypedName) (is : List Instr) (r : Rel) (p q t : Term) (w : IsGoalOver c ls rs (phoare (body is) r p q t)) (Gs : List Goal) → (o : Option Sampling) → last_sampling is ≡ o →
       by_end ds r p q t o ≡ given Gs → AreSoundIn ds c (phoare (body is) r p q t) Gs
   with_end rs is r p q t w Gs None ex h = refused_given Shape Gs h
-  with_end rs is r p q t w Gs (Some x) ex h = checked (first_clash side.Own x.target q) refl h
+  with_end rs is r p q t w Gs (Some x) ex h = checked (first_clash (exclusions ds) side.Own x.target q) refl h
     where
-      checked : (u : Option Var) → first_clash side.Own x.target q ≡ u → unless_clash (option_map (λ z. x.target) u) (of_rest (first_loss ds x.before) r t (without_sampling x r p q t)) ≡ given Gs →
+      checked : (u : Option Var) → first_clash (exclusions ds) side.Own x.target q ≡ u → unless_clash (option_map (λ z. x.target) u) (of_rest (first_loss ds x.before) r t (without_sampling x r p q t)) ≡ given Gs →
           AreSoundIn ds c (phoare (body is) r p q t) Gs
       checked (Some z) e h = refused_given (SideCondition x.target) Gs h
       checked None e h = rest rs is r p q t w Gs x (drawn c ls is x w.0 ex) e (first_loss ds x.before) refl h
@@ -242,7 +244,7 @@ module _ (ds : Declarations) (scoped : IsTypedScope (declared ds)) (q : Sequent)
   sound outer ls rs (phoare (body is) r p f b) w k Gs e =
       let G = phoare (body is) r p f b in
       subst (λ c. AreSoundIn ds c G Gs) (sym outer)
-      (with_end ds over_scope ls (subst (LosesNone ds) outer weighs_all) rs is r p f b (subst (λ c. IsGoalOver c ls rs G) outer w) Gs (last_sampling is) refl e)
+      (with_end ds scoped over_scope ls (subst (LosesNone ds) outer weighs_all) rs is r p f b (subst (λ c. IsGoalOver c ls rs G) outer w) Gs (last_sampling is) refl e)
   sound outer ls rs (phoare (procedure a) r p f b) w k Gs e = refused_given Shape Gs e
   sound outer ls rs (hoare a p f) w k Gs e = refused_given Shape Gs e
   sound outer ls rs (equiv a d p f) w k Gs e = refused_given Shape Gs e

@@ -8,12 +8,13 @@ use Rattle.gb_terms.specs.declared.op.Side.TheVariants.{Own}
 use Rattle.gb_terms.specs.declared.term.Term.{Term}
 use Rattle.gb_goal.specs.Scope.{Declarations}
 use Rattle.gb_walk.specs.Clash.{first_clash}
+use Rattle.gb_mods.specs.Exclusions.{exclusions}
 use Rattle.gb_typing.specs.Samplings.{Sampling}
 use Rattle.gb_full.specs.Loss.{Loss, first_loss}
 use Rattle.gb_phoare.specs.Rnd.{by_end, unless_clash, without_sampling}
 use Rattle.gb_full.specs.Lossless.{of_rest}
 
-pub without_clash : (ds : Declarations) (r : Rel) (p q b : Term) (x : Sampling) (o : Option Sampling) (l : Loss) → Some x ≡ o → l ≡ first_loss ds x.before → None ≡ first_clash Own x.target q →
+pub without_clash : (ds : Declarations) (r : Rel) (p q b : Term) (x : Sampling) (o : Option Sampling) (l : Loss) → Some x ≡ o → l ≡ first_loss ds x.before → None ≡ first_clash (exclusions ds) Own x.target q →
     of_rest l r b (without_sampling x r p q b) ≡ by_end ds r p q b o
 without_clash ds r p q b x o l e f k =
     ap (λ l. of_rest l r b (without_sampling x r p q b)) f

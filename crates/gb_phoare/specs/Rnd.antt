@@ -20,6 +20,7 @@ use Rattle.gb_full.specs.Loss.{first_loss}
 use Rattle.gb_full.specs.Lossless.{of_rest}
 use Rattle.gb_forms.specs.Drawn.{with_value}
 use Rattle.gb_equiv.specs.Drawn.{clashing}
+use Rattle.gb_mods.specs.Exclusions.{exclusions}
 
 -- how likely the postcondition is of a sampled value: `mu d (fun v => Q)`
 abbrev pub measured : Sampling → Term → Term
@@ -36,7 +37,7 @@ unless_clash None a = a
 -- the goals without the sampling that ends the body
 abbrev pub by_end : Declarations → Rel → Term → Term → Term → Option Sampling → Answer (List Goal)
 by_end ds r p q b None = refusing Shape
-by_end ds r p q b (Some x) = unless_clash (clashing Own x.target q) (of_rest (first_loss ds x.before) r b (without_sampling x r p q b))
+by_end ds r p q b (Some x) = unless_clash (clashing (exclusions ds) Own x.target q) (of_rest (first_loss ds x.before) r b (without_sampling x r p q b))
 
 abbrev pub rnd_row : Declarations → Row
 rnd_row ds (phoare (body is) r p q b) = by_end ds r p q b (last_sampling is)

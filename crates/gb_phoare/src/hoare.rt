@@ -121,8 +121,8 @@ fn by_relation(
 
 /// The subgoals of `hoare` on a judgment with a probability: `<=` follows where the postcondition never holds and the bound isn't below 0,
 /// `>=` where it always holds and the bound isn't above 1, and `=` with the literal `0%r` or `1%r` where it never or always holds. Where it
-/// is to hold always no weight may be lost: else refused with `NotLossless` at the first variable, and with `Shape` at a call of what isn't declared by its name. Refused
-/// with `Shape` at any other goal.
+/// is to hold always no weight may be lost: else refused with `NotLossless` at the first variable, and with `Shape` at a call of a
+/// procedure of which nothing is known. Refused with `Shape` at any other goal.
 pub fn hoare_rule(alloc: Global, goal: &Sequent, scope: &Scope) -> Result<Sequents, Refused>
     ensures { Answers (answered (hoare_row scope.now) goal.now) result }
 {

@@ -23,6 +23,7 @@ use gb_full::lossless::{Judged, of_rest};
 use gb_goal::goal::{Code, Goal, goal_of, hoare};
 use gb_goal::scope::Scope;
 use gb_goal::sequent::{Sequent, Sequents};
+use gb_mods::exclusions::exclusions;
 use gb_parts::compared::compared;
 use gb_parts::subgoals::{no_shape, refusal};
 use gb_terms::make::term;
@@ -90,7 +91,15 @@ fn by_end(
     let Some(sampling) = last_sampling(body) else {
         return Err(no_shape());
     };
-    if first_clash(&Side::Own, sampling.target, judged.post).is_some() {
+    let excluded = exclusions(alloc, scope)?;
+    if first_clash(
+        excluded.as_slice(),
+        &Side::Own,
+        sampling.target,
+        judged.post,
+    )
+    .is_some()
+    {
         let target = copy_var(alloc, sampling.target)?;
         return Err(refusal(Why::SideCondition(target)));
     }

@@ -33,11 +33,10 @@ fn touched_by(
     ensures { IfOk result (λ made. made ≡ each_touched list.now ++ footprint.touched scope.now called.now) }
 {
     let own = touched::touched(alloc, Items::new(alloc), list)?;
-    let others = footprint::touched(alloc, scope, called)?;
-    with_variables(alloc, own, others.as_slice())
+    footprint::touched(alloc, scope, own, called)
 }
 
-/// The effects of statements that call these procedures, through all of them. None where one of these isn't declared.
+/// The effects of statements that call these procedures, through all of them. None where it isn't known what one of these stands for.
 pub fn effects_by(
     alloc: Global,
     scope: &Scope,

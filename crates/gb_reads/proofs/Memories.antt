@@ -14,12 +14,12 @@ use Rattle.gb_meaning.specs.Values.{Types, has, values, fit}
 use Rattle.gb_meaning.specs.Memory.{Memory, read, read_globals, write}
 use Rattle.gb_meaning.specs.State.{no_memory}
 use Rattle.gb_meaning.proofs.Memories.{read-write_global, read-write_other_global, read-write_local, read-write_other_local}
-use Rattle.gb_walk.specs.Clash.{clashes}
+use Rattle.gb_walk.specs.Clash.{Exclusions, clashes}
 use Rattle.gb_reads.specs.declared.reads.TypedVar.{TypedVar}
 use Rattle.gb_reads.specs.Reads.{Vars, are_free, is_clash_among}
 use Rattle.gb_reads.specs.declared.held.Held.{Held}
 use Rattle.gb_reads.specs.Held.{is_of, value_of, with_values}
-use Rattle.gb_reads.specs.Memories.{AreOf, AreReadable, HaveValues, IsHeldBy, IsReadable, read_all}
+use Rattle.gb_reads.specs.Memories.{AreKeptApart, AreOf, AreReadable, HaveValues, IsHeldBy, IsReadable, read_all}
 use Rattle.gb_reads.proofs.Globals.{fits, frame_left, globals_back, globals_in, neither, two_names}
 use Rattle.gb_core.specs.SameTypes.{ty_eq}
 use Rattle.gb_core.proofs.SameTypes.{ty_eq-Decides}
@@ -36,60 +36,60 @@ pub of_types : (t : Types) (m : Memory) (xs : Vars) → AreReadable t xs → Hav
 of_types t m [] r h = tt
 of_types t m (x ∷ xs) r h = (reads_value t m x.var x.ty r.0 h.0, of_types t m xs r.1 h.1)
 
--- the first of variables that don't clash, and the others
-first_free : (x : TypedVar) (xs : Vars) → are_free (x ∷ xs) ≡ true → (is_clash_among xs x.var ≡ false) × (are_free xs ≡ true)
-first_free x xs h =
-    let p = and_parts (not (is_clash_among xs x.var)) (are_free xs) h in
-    (none (is_clash_among xs x.var) p.0, p.1)
-  where
-    none : (a : Bool) → not a ≡ true → a ≡ false
-    none true e = absurd (false≢true e)
-    none false e = refl
-
--- writing one variable
-
 written : (t : Types) (m : Memory) (x : Var) (ty : Ty) (v : Value) → IsReadable t x ty → has t ty v ≡ true → read t (write t m x v) x ty ≡ v
 written t m (Global p n) ty v r h = read-write_global t m (record { parent = p; name = n; ty = ty }) v h
 written t m (Local n) ty v r h = read-write_local t m n ty v h
 written t m (Glob a) ty v r h = globals_back t (t.footprint (named a)) r.0 r.1 v (subst (λ (z : Numbering). z.has v ≡ true) r.2 h) m
-
-one_name : (a b : Name) → bytes_eq a b ≡ false → (a ∷ []) ≢ (b ∷ [])
-one_name a b n e = let p : a ≡ b = cc in false≢true (sym n ∙ (bytes_eq-Decides a b).1 p)
-
--- a write leaves a variable that doesn't clash with what is written
-unwritten : (t : Types) (m : Memory) (x y : Var) (ty : Ty) (v : Value) → clashes x y ≡ false → read t (write t m x v) y ty ≡ read t m y ty
-unwritten t m (Global p n) (Global q k) ty v e = read-write_other_global t m (record { parent = q; name = k; ty = ty }) p n v (λ z. two_names p n q k e (sym z))
-unwritten t m (Global p n) (Local k) ty v e = refl
-unwritten t m (Global p n) (Glob b) ty v e = absurd (false≢true (sym e))
-unwritten t m (Local n) (Global q k) ty v e = refl
-unwritten t m (Local n) (Local k) ty v e = read-write_other_local t m k n ty v (λ z. one_name n k e (sym z))
-unwritten t m (Local n) (Glob b) ty v e = refl
-unwritten t m (Glob a) (Global q k) ty v e = absurd (false≢true (sym e))
-unwritten t m (Glob a) (Local k) ty v e = ap (λ f. fit t ty (get f (k ∷ []))) (frame_left (t.footprint (named a)) (parts_of v) m)
-unwritten t m (Glob a) (Glob b) ty v e = absurd (false≢true (sym e))
-
-others_stay : (t : Types) (m : Memory) (x : Var) (v : Value) (xs : Vars) → is_clash_among xs x ≡ false → read_all t (write t m x v) xs ≡ read_all t m xs
-others_stay t m x v [] n = refl
-others_stay t m x v (y ∷ ys) n =
-    let q = neither (clashes x y.var) (is_clash_among ys x) n in
-    (λ i. unwritten t m x y.var y.ty v q.0 i ∷ others_stay t m x v ys q.1 i)
 
 made : Types → Vars → List Value → Memory
 made t [] vs = no_memory
 made t (x ∷ xs) [] = no_memory
 made t (x ∷ xs) (v ∷ vs) = write t (made t xs vs) x.var v
 
-made_reads : (t : Types) (xs : Vars) (vs : List Value) → are_free xs ≡ true → AreReadable t xs → AreOf t xs vs → read_all t (made t xs vs) xs ≡ vs
-unfolding made
-made_reads t [] [] f r a = refl
-made_reads t [] (v ∷ vs) f r a = absurd a
-made_reads t (x ∷ xs) [] f r a = absurd a
-made_reads t (x ∷ xs) (v ∷ vs) f r a =
-    let p = first_free x xs f in
-    (λ i. written t (made t xs vs) x.var x.ty v r.0 a.0 i ∷ (others_stay t (made t xs vs) x.var v xs p.0 ∙ made_reads t xs vs p.1 r.1 a.1) i)
+module _ (es : Exclusions) (t : Types) (apart : AreKeptApart es t) where
+  -- the first of variables that don't clash, and the others
+  first_free : (x : TypedVar) (xs : Vars) → are_free es (x ∷ xs) ≡ true → (is_clash_among es xs x.var ≡ false) × (are_free es xs ≡ true)
+  first_free x xs h =
+      let p = and_parts (not (is_clash_among es xs x.var)) (are_free es xs) h in
+      (none (is_clash_among es xs x.var) p.0, p.1)
+    where
+      none : (a : Bool) → not a ≡ true → a ≡ false
+      none true e = absurd (false≢true e)
+      none false e = refl
 
-pub exist : (t : Types) (xs : Vars) (vs : List Value) → are_free xs ≡ true → AreReadable t xs → AreOf t xs vs → (m : Memory) × (read_all t m xs ≡ vs)
-exist t xs vs f r a = (made t xs vs, made_reads t xs vs f r a)
+  others_stay : (m : Memory) (x : Var) (v : Value) (xs : Vars) → is_clash_among es xs x ≡ false → read_all t (write t m x v) xs ≡ read_all t m xs
+  others_stay m x v [] n = refl
+  others_stay m x v (y ∷ ys) n =
+      let q = neither (clashes es x y.var) (is_clash_among es ys x) n in
+      (λ i. apart x y.var q.0 y.ty m v i ∷ others_stay m x v ys q.1 i)
+
+  made_reads : (xs : Vars) (vs : List Value) → are_free es xs ≡ true → AreReadable t xs → AreOf t xs vs → read_all t (made t xs vs) xs ≡ vs
+  unfolding made
+  made_reads [] [] f r a = refl
+  made_reads [] (v ∷ vs) f r a = absurd a
+  made_reads (x ∷ xs) [] f r a = absurd a
+  made_reads (x ∷ xs) (v ∷ vs) f r a =
+      let p = first_free x xs f in
+      (λ i. written t (made t xs vs) x.var x.ty v r.0 a.0 i ∷ (others_stay (made t xs vs) x.var v xs p.0 ∙ made_reads xs vs p.1 r.1 a.1) i)
+
+  pub exist : (xs : Vars) (vs : List Value) → are_free es xs ≡ true → AreReadable t xs → AreOf t xs vs → (m : Memory) × (read_all t m xs ≡ vs)
+  exist xs vs f r a = (made t xs vs, made_reads xs vs f r a)
+
+-- where nothing is excluded, variables that don't clash are kept apart
+
+one_name : (a b : Name) → bytes_eq a b ≡ false → (a ∷ []) ≢ (b ∷ [])
+one_name a b n e = let p : a ≡ b = cc in false≢true (sym n ∙ (bytes_eq-Decides a b).1 p)
+
+pub all_apart : (t : Types) → AreKeptApart [] t
+all_apart t (Global p n) (Global q k) e ty m v = read-write_other_global t m (record { parent = q; name = k; ty = ty }) p n v (λ z. two_names p n q k e (sym z))
+all_apart t (Global p n) (Local k) e ty m v = refl
+all_apart t (Global p n) (Glob b) e ty m v = absurd (false≢true (sym e))
+all_apart t (Local n) (Global q k) e ty m v = refl
+all_apart t (Local n) (Local k) e ty m v = read-write_other_local t m k n ty v (λ z. one_name n k e (sym z))
+all_apart t (Local n) (Glob b) e ty m v = refl
+all_apart t (Glob a) (Global q k) e ty m v = absurd (false≢true (sym e))
+all_apart t (Glob a) (Local k) e ty m v = ap (λ f. fit t ty (get f (k ∷ []))) (frame_left (t.footprint (named a)) (parts_of v) m)
+all_apart t (Glob a) (Glob b) e ty m v = let k = neither (bytes_eq a b) true e in absurd (false≢true (sym k.1))
 
 -- known values
 

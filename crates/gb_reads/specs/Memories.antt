@@ -1,5 +1,5 @@
 -- The values that memories give variables.
-use Rattle.std.specs.Prelude.{◌≡◌, ◌<◌, true, List, [], ◌∷◌, map}
+use Rattle.std.specs.Prelude.{◌≡◌, ◌<◌, true, false, List, [], ◌∷◌, map}
 use Rattle.gb_core.specs.declared.ty.Ty.{Ty}
 use Rattle.gb_core.specs.declared.ty.Ty.TheVariants as ty
 use Rattle.gb_core.specs.declared.value.Value.{Value}
@@ -7,7 +7,8 @@ use Rattle.gb_core.specs.declared.var.Var.{Var}
 use Rattle.gb_core.specs.declared.var.Var.TheVariants.{Glob}
 use Rattle.gb_terms.specs.declared.module.Mexp.TheVariants.{Name as named}
 use Rattle.gb_meaning.specs.Values.{Global, Types, has, values}
-use Rattle.gb_meaning.specs.Memory.{Memory, read}
+use Rattle.gb_meaning.specs.Memory.{Memory, read, write}
+use Rattle.gb_walk.specs.Clash.{Exclusions, clashes}
 use Rattle.gb_holds.specs.Globs.{IsGlobless}
 use Rattle.gb_holds.specs.Programs.{AreOnce}
 use Rattle.gb_reads.specs.declared.held.Held.{Held}
@@ -37,6 +38,10 @@ IsReadable t x b = Unit {0}
 abbrev pub AreReadable : Types → Vars → Type 0
 AreReadable t [] = Unit {0}
 AreReadable t (x ∷ xs) = IsReadable t x.var x.ty × AreReadable t xs
+
+-- a write of a variable leaves what is read of each other one that doesn't clash with it
+abbrev pub AreKeptApart : Exclusions → Types → Type 0
+AreKeptApart es t = (x y : Var) → clashes es x y ≡ false → (b : Ty) (m : Memory) (v : Value) → read t (write t m x v) y b ≡ read t m y b
 
 -- each type has values
 abbrev pub HaveValues : Types → Vars → Type 0

@@ -11,7 +11,7 @@ use Rattle.gb_terms.specs.declared.term.Term.{Term, Term', Row_of-Term, end_of-T
 use Rattle.gb_terms.specs.declared.term.Head.{Head}
 use Rattle.gb_terms.specs.declared.term.Head.TheVariants as head
 use Rattle.gb_terms.specs.Equal.{var_eq}
-use Rattle.gb_walk.specs.Clash.{clashes}
+use Rattle.gb_walk.specs.Clash.{Exclusions, clashes}
 use Rattle.gb_walk.specs.Layers.{is_binder, seen_by}
 use Rattle.gb_reads.specs.declared.reads.TypedVar.{TypedVar}
 
@@ -61,10 +61,10 @@ abbrev pub reads_of : Term → Vars
 reads_of t = noted [] (reads_at t 0)
 
 -- a variable that clashes with one of these
-abbrev pub is_clash_among : Vars → Var → Bool
-is_clash_among xs x = list_any (λ y. clashes x y.var) xs
+abbrev pub is_clash_among : Exclusions → Vars → Var → Bool
+is_clash_among es xs x = list_any (λ y. clashes es x y.var) xs
 
 -- No two of these clash, so that memories give them all values of their types, independently.
-abbrev pub are_free : Vars → Bool
-are_free [] = true
-are_free (x ∷ xs) = not (is_clash_among xs x.var) && are_free xs
+abbrev pub are_free : Exclusions → Vars → Bool
+are_free es [] = true
+are_free es (x ∷ xs) = not (is_clash_among es xs x.var) && are_free es xs

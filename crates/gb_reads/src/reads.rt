@@ -14,7 +14,7 @@ use gb_core::var::Var;
 use gb_terms::op::{Read, Side};
 use gb_terms::term::{Head, Term};
 use gb_walk::binders::is_binder;
-use gb_walk::clash::clashes;
+use gb_walk::clash::{Excluded, clashes};
 use sqlite_items::Items;
 use std::alloc::{AllocError, Global};
 
@@ -158,11 +158,11 @@ pub fn reads(alloc: Global, body: &Term) -> Result<TypedVars, AllocError>
 }
 
 /// Whether a variable clashes with one of these.
-fn is_clash_among(list: &[TypedVar], var: &Var) -> bool
-    ensures { result ≡ is_clash_among list.now var.now }
+fn is_clash_among(exclusions: &[Excluded], list: &[TypedVar], var: &Var) -> bool
+    ensures { result ≡ is_clash_among exclusions.now list.now var.now }
 {
     for entry in list {
-        if clashes(var, entry.var.get()) {
+        if clashes(exclusions, var, entry.var.get()) {
             return true;
         }
     }
@@ -170,11 +170,11 @@ fn is_clash_among(list: &[TypedVar], var: &Var) -> bool
 }
 
 /// Whether no two of these clash, so that memories give them all values of their types, independently.
-pub fn are_free(list: &[TypedVar]) -> bool
-    ensures { result ≡ are_free list.now }
+pub fn are_free(exclusions: &[Excluded], list: &[TypedVar]) -> bool
+    ensures { result ≡ are_free exclusions.now list.now }
 {
     for i in 0..list.len() {
-        if is_clash_among(&list[i + 1..], list[i].var.get()) {
+        if is_clash_among(exclusions, &list[i + 1..], list[i].var.get()) {
             return false;
         }
     }

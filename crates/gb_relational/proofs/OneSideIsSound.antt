@@ -60,6 +60,8 @@ use Rattle.gb_steps.specs.declared.step.Acts.TheVariants as on
 use Rattle.gb_typing.specs.Forms.{IsAlone, and_form, located}
 use Rattle.gb_typing.specs.Meaning.{run, denominator}
 use Rattle.gb_goal.specs.Scope.{Declarations}
+use Rattle.gb_mods.specs.Exclusions.{exclusions}
+use Rattle.gb_adversaries.proofs.KeptOff.{kept_off}
 use Rattle.gb_goal.specs.declared.sequent.Sequent.{Sequent}
 use Rattle.gb_holds.specs.Declared.{declared}
 use Rattle.gb_typing.specs.Rules.{outermost, ImpliesIn, IsSettingOver, IsSoundRuleIn, no_arguments}
@@ -95,7 +97,7 @@ literal_says g j s = ap truth (val_node g (speaking g j) (head.Lit (Num 1)) [] t
 abbrev AreSoundIn : Declarations → Context → Goal → List Goal → Type 0
 AreSoundIn ds c G Gs = AllByRecursion (IsTypedGoal c) Gs × ImpliesIn (declared ds) c Gs G
 
-module _ (ds : Declarations) (b : Context) (operators : (g : Setting) → IsSettingOf (outermost b) g → IsSettingOver (declared ds) g → AreFullOperators ds g (outermost b)) (ls rs : List TypedName) where
+module _ (ds : Declarations) (scoped : IsTypedScope (declared ds)) (b : Context) (operators : (g : Setting) → IsSettingOf (outermost b) g → IsSettingOver (declared ds) g → AreFullOperators ds g (outermost b)) (ls rs : List TypedName) where
   abbrev c : Context
   c = outermost b
 
@@ -203,36 +205,36 @@ module _ (ds : Declarations) (b : Context) (operators : (g : Setting) → IsSett
 
   -- the left body
   module _ (is js : List Instr) (x : Sampling) (dx : IsDrawn c ls is x) where
-    left_alone : (g : Setting) → IsSettingOf c g → IsSettingOver (declared ds) g → (j : Judge) → IsFair g j → (s : State) → IsStateOf c g s → (a d : Memory) → (q : Term) → IsForm goal q → first_clash side.Left x.target q ≡ None →
+    left_alone : (g : Setting) → IsSettingOf c g → IsSettingOver (declared ds) g → (j : Judge) → IsFair g j → (s : State) → IsStateOf c g s → (a d : Memory) → (q : Term) → IsForm goal q → first_clash (exclusions ds) side.Left x.target q ≡ None →
         IsTrueUnder g j (before_drawing ds side.Left x q) (between s a d) → Coupling (λ m n. IsTrueUnder g j q (between s m n)) (run g s (last_one x) a) (denominator g (last_one x)) (unit d) 1
     left_alone g fits over j fair s fit a d q w e t =
-        let clear = one_clear goal q w.typed side.Left tt x.target e in
+        let clear = one_clear (exclusions ds) goal q w.typed side.Left tt x.target e in
         let k = both side.Left tt ls refl x refl is dx g fits over j fair s fit a d q t in
         let sound : IsSound g (statements g (last_one x)) = sampled_sound side.Left tt ls refl x refl is dx g fits over j fair s fit a d in
         coupling_left_alone (λ m. IsTrueUnder g j q (between s m d)) (λ m n. IsTrueUnder g j q (between s m n)) (run g s (last_one x) a) (denominator g (last_one x)) d
         (run_positive g (statements g (last_one x)) sound) k.0
         (run_entries_in g s (λ m. IsTrueUnder g j q (between s m d)) (statements g (last_one x)) sound a
-        (each_after side.Left tt ls refl x refl is dx g fits over j fair s fit a d q w clear.0 clear.1 (clear.2 g) k.1)) (λ m p. p)
+        (each_after side.Left tt ls refl x refl is dx g fits over j fair s fit a d q w clear.0 clear.1 (clear.2 g (kept_off ds scoped g over)) k.1)) (λ m p. p)
 
-    left_implied : (p q : Term) → IsForm goal q → first_clash side.Left x.target q ≡ None → ImpliesIn (declared ds) c (equiv (body x.before) (body js) p (before_drawing ds side.Left x q) ∷ []) (equiv (body is) (body js) p q)
+    left_implied : (p q : Term) → IsForm goal q → first_clash (exclusions ds) side.Left x.target q ≡ None → ImpliesIn (declared ds) c (equiv (body x.before) (body js) p (before_drawing ds side.Left x q) ∷ []) (equiv (body is) (body js) p q)
     left_implied p q w e g fits over j fair s fit h m n z =
         coupled_in_turn g s (λ a d. IsTrueUnder g j q (between s a d)) (λ a d. IsTrueUnder g j (before_drawing ds side.Left x q) (between s a d)) is js x.before (last_one x) js []
         dx.shape (sym (append-nil js)) m n (h.0 m n z) (λ a d t. left_alone g fits over j fair s fit a d q w e t)
 
   -- the right body
   module _ (is js : List Instr) (y : Sampling) (dy : IsDrawn c rs js y) where
-    right_alone : (g : Setting) → IsSettingOf c g → IsSettingOver (declared ds) g → (j : Judge) → IsFair g j → (s : State) → IsStateOf c g s → (a d : Memory) → (q : Term) → IsForm goal q → first_clash side.Right y.target q ≡ None →
+    right_alone : (g : Setting) → IsSettingOf c g → IsSettingOver (declared ds) g → (j : Judge) → IsFair g j → (s : State) → IsStateOf c g s → (a d : Memory) → (q : Term) → IsForm goal q → first_clash (exclusions ds) side.Right y.target q ≡ None →
         IsTrueUnder g j (before_drawing ds side.Right y q) (between s a d) → Coupling (λ m n. IsTrueUnder g j q (between s m n)) (unit a) 1 (run g s (last_one y) d) (denominator g (last_one y))
     right_alone g fits over j fair s fit a d q w e t =
-        let clear = one_clear goal q w.typed side.Right tt y.target e in
+        let clear = one_clear (exclusions ds) goal q w.typed side.Right tt y.target e in
         let k = both side.Right tt rs refl y refl js dy g fits over j fair s fit a d q t in
         let sound : IsSound g (statements g (last_one y)) = sampled_sound side.Right tt rs refl y refl js dy g fits over j fair s fit a d in
         coupling_right_alone (λ n. IsTrueUnder g j q (between s a n)) (λ m n. IsTrueUnder g j q (between s m n)) (run g s (last_one y) d) (denominator g (last_one y)) a
         (run_positive g (statements g (last_one y)) sound) k.0
         (run_entries_in g s (λ n. IsTrueUnder g j q (between s a n)) (statements g (last_one y)) sound d
-        (each_after side.Right tt rs refl y refl js dy g fits over j fair s fit a d q w clear.0 clear.1 (clear.2 g) k.1)) (λ n p. p)
+        (each_after side.Right tt rs refl y refl js dy g fits over j fair s fit a d q w clear.0 clear.1 (clear.2 g (kept_off ds scoped g over)) k.1)) (λ n p. p)
 
-    right_implied : (p q : Term) → IsForm goal q → first_clash side.Right y.target q ≡ None → ImpliesIn (declared ds) c (equiv (body is) (body y.before) p (before_drawing ds side.Right y q) ∷ []) (equiv (body is) (body js) p q)
+    right_implied : (p q : Term) → IsForm goal q → first_clash (exclusions ds) side.Right y.target q ≡ None → ImpliesIn (declared ds) c (equiv (body is) (body y.before) p (before_drawing ds side.Right y q) ∷ []) (equiv (body is) (body js) p q)
     right_implied p q w e g fits over j fair s fit h m n z =
         coupled_in_turn g s (λ a d. IsTrueUnder g j q (between s a d)) (λ a d. IsTrueUnder g j (before_drawing ds side.Right y q) (between s a d)) is js is [] y.before (last_one y)
         (sym (append-nil is)) dy.shape m n (h.0 m n z) (λ a d t. right_alone g fits over j fair s fit a d q w e t)
@@ -243,9 +245,9 @@ module _ (ds : Declarations) (b : Context) (operators : (g : Setting) → IsSett
 
     left_sound : (o : Option Sampling) → last_sampling is ≡ o → by_end ds (record { side = side.Left; list = is; pre = p; post = q; goal = λ is p q. equiv (body is) (body js) p q }) o ≡ given Gs → Sound
     left_sound None ex f = refused_given Shape Gs f
-    left_sound (Some x) ex f = checked (first_clash side.Left x.target q) refl f
+    left_sound (Some x) ex f = checked (first_clash (exclusions ds) side.Left x.target q) refl f
       where
-        checked : (u : Option Var) → first_clash side.Left x.target q ≡ u → unless_clash (option_map (λ z. x.target) u) (equiv (body x.before) (body js) p (before_drawing ds side.Left x q)) ≡ given Gs → Sound
+        checked : (u : Option Var) → first_clash (exclusions ds) side.Left x.target q ≡ u → unless_clash (option_map (λ z. x.target) u) (equiv (body x.before) (body js) p (before_drawing ds side.Left x q)) ≡ given Gs → Sound
         checked (Some z) e f = refused_given (SideCondition x.target) Gs f
         checked None e f =
             let dx = drawn c ls is x w.1 ex in
@@ -254,9 +256,9 @@ module _ (ds : Declarations) (b : Context) (operators : (g : Setting) → IsSett
 
     right_sound : (o : Option Sampling) → last_sampling js ≡ o → by_end ds (record { side = side.Right; list = js; pre = p; post = q; goal = λ js p q. equiv (body is) (body js) p q }) o ≡ given Gs → Sound
     right_sound None ey f = refused_given Shape Gs f
-    right_sound (Some y) ey f = checked (first_clash side.Right y.target q) refl f
+    right_sound (Some y) ey f = checked (first_clash (exclusions ds) side.Right y.target q) refl f
       where
-        checked : (u : Option Var) → first_clash side.Right y.target q ≡ u → unless_clash (option_map (λ z. y.target) u) (equiv (body is) (body y.before) p (before_drawing ds side.Right y q)) ≡ given Gs → Sound
+        checked : (u : Option Var) → first_clash (exclusions ds) side.Right y.target q ≡ u → unless_clash (option_map (λ z. y.target) u) (equiv (body is) (body y.before) p (before_drawing ds side.Right y q)) ≡ given Gs → Sound
         checked (Some z) e f = refused_given (SideCondition y.target) Gs f
         checked None e f =
             let dy = drawn c rs js y w.2 ey in
@@ -275,10 +277,10 @@ module _ (ds : Declarations) (scoped : IsTypedScope (declared ds)) (h : Sequent)
   pub sound : (a : Acts) → IsSoundRuleIn (declared ds) around (drawn_row ds a) no_arguments
   sound on.Left outer ls rs (equiv (body is) (body js) p q) w k Gs e =
       let G = equiv (body is) (body js) p q in
-      subst (λ c. AreSoundIn ds c G Gs) (sym outer) (left_sound ds around (operators outer) ls rs is js p q (subst (λ c. IsGoalOver c ls rs G) outer w) Gs (last_sampling is) refl e)
+      subst (λ c. AreSoundIn ds c G Gs) (sym outer) (left_sound ds scoped around (operators outer) ls rs is js p q (subst (λ c. IsGoalOver c ls rs G) outer w) Gs (last_sampling is) refl e)
   sound on.Right outer ls rs (equiv (body is) (body js) p q) w k Gs e =
       let G = equiv (body is) (body js) p q in
-      subst (λ c. AreSoundIn ds c G Gs) (sym outer) (right_sound ds around (operators outer) ls rs is js p q (subst (λ c. IsGoalOver c ls rs G) outer w) Gs (last_sampling js) refl e)
+      subst (λ c. AreSoundIn ds c G Gs) (sym outer) (right_sound ds scoped around (operators outer) ls rs is js p q (subst (λ c. IsGoalOver c ls rs G) outer w) Gs (last_sampling js) refl e)
   sound on.All outer ls rs G w k Gs e = refused_given Shape Gs e
   sound on.Left outer ls rs (equiv (procedure f) d p q) w k Gs e = refused_given Shape Gs e
   sound on.Left outer ls rs (equiv (body is) (procedure f) p q) w k Gs e = refused_given Shape Gs e

@@ -19,6 +19,7 @@ use Rattle.gb_forms.specs.Surely.{surely_drawn}
 use Rattle.gb_full.specs.Loss.{may_lose}
 use Rattle.gb_parts.specs.OneBody.{OneBody, one_body, on_one}
 use Rattle.gb_equiv.specs.Drawn.{clashing, unless_clash}
+use Rattle.gb_mods.specs.Exclusions.{exclusions}
 
 -- the postcondition of a value that is sampled on this side
 abbrev pub with_value : Side → Sampling → Term → Term
@@ -34,7 +35,7 @@ before_drawing ds r x q = if may_lose ds x.from then and_form (surely_drawn r x)
 
 -- the goal without the sampling that ends the body on which the rule acts
 abbrev pub by_end : Declarations → OneBody → Option Sampling → Answer (List Goal)
-by_end ds o (Some x) = unless_clash (clashing o.side x.target o.post) (o.goal x.before o.pre (before_drawing ds o.side x o.post))
+by_end ds o (Some x) = unless_clash (clashing (exclusions ds) o.side x.target o.post) (o.goal x.before o.pre (before_drawing ds o.side x o.post))
 by_end ds o None = refusing Shape
 
 -- `rnd` on one of two bodies

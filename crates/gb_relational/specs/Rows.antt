@@ -17,7 +17,7 @@ use Rattle.gb_relational.specs.Transitivity.{transitivity_row, IsTypedBetween}
 
 -- what a relational rule makes of goals; the other rules are of other crates
 abbrev pub rule_row : Declarations → Rule → Row
-rule_row ds (Relational (Rnd fs)) = rnd_row fs
+rule_row ds (Relational (Rnd fs)) = rnd_row ds fs
 rule_row ds (Relational Symmetry) = symmetry_row
 rule_row ds (Relational (Drawn a)) = drawn_row ds a
 rule_row ds (Relational (Transitivity t)) = transitivity_row t

@@ -17,6 +17,7 @@ use gb_full::loss::{full_operators, may_lose};
 use gb_goal::goal::goal_of;
 use gb_goal::scope::Scope;
 use gb_goal::sequent::{Sequent, Sequents};
+use gb_mods::exclusions::exclusions;
 use gb_parts::forms::located;
 use gb_parts::one_body::{OneBody, filled, one_body, side_of};
 use gb_parts::subgoals::{no_shape, one_goal, placed, refusal};
@@ -92,7 +93,8 @@ fn by_end(
         return Err(no_shape());
     };
     let side = side_of(one.around);
-    if first_clash(&side, sampling.target, one.post).is_some() {
+    let excluded = exclusions(alloc, scope)?;
+    if first_clash(excluded.as_slice(), &side, sampling.target, one.post).is_some() {
         let target = copy_var(alloc, sampling.target)?;
         return Err(refusal(Why::SideCondition(target)));
     }

@@ -22,6 +22,7 @@ pub fn apply(alloc: Global, step: &Step, goal: &Sequent, scope: &Scope) -> Resul
         Rule::Relational(RelationalRule::Rnd(maps)) => rnd_rule(
             alloc,
             goal,
+            scope,
             maps.as_slice(),
             step.place,
         ),

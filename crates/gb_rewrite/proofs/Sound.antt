@@ -15,12 +15,9 @@ use Rattle.gb_steps.specs.declared.step.EventLaw.{EventLaw}
 use Rattle.gb_steps.specs.declared.step.RewriteRule.{RewriteRule}
 use Rattle.gb_steps.specs.declared.step.RewriteRule.TheVariants.{Forward, Back, Subst, Unfold, Law}
 use Rattle.gb_coupling.specs.WeightedList.{total}
-use Rattle.gb_coupling.proofs.Masses.{mass-dmap}
-use Rattle.gb_meaning.specs.Memory.{Memory, outcome}
-use Rattle.gb_meaning.specs.Runs.{new_frame, valued}
 use Rattle.gb_meaning.specs.Names.{Name}
 use Rattle.gb_meaning.specs.Setting.{Meaning, Setting}
-use Rattle.gb_meaning.specs.State.{State, closed}
+use Rattle.gb_meaning.specs.State.{State}
 use Rattle.gb_meaning.specs.Terms.{val}
 use Rattle.gb_meaning.specs.Judgments.{Judge, IsFair, outcome_denominator, outcomes_of, speaking}
 use Rattle.gb_laws.specs.Context.{AreOf}
@@ -39,9 +36,7 @@ use Rattle.gb_typing.specs.Fits.{IsSettingOf, IsStateOf}
 use Rattle.gb_typing.specs.Sequents.{IsConclusion, AreHypotheses, IsTypedSequent}
 use Rattle.gb_typing.specs.Scopes.{context_of, IsTypedScope}
 use Rattle.gb_typing.specs.Chosen.{IsChosenOver}
-use Rattle.gb_typing.specs.Meaning.{run}
 use Rattle.gb_typing.specs.Rules.{IsSettingOver, outermost}
-use Rattle.gb_typing.proofs.LinkedProcedures.{linked_there}
 use Rattle.gb_typing.proofs.Models.{each_chosen}
 use Rattle.gb_typing.proofs.TypedGoals.{goal_conclusion, goal_front}
 use Rattle.gb_typing.proofs.Given.{refused_at, same_given}
@@ -328,11 +323,7 @@ module _ (es : entries.Declarations) (scope : IsTypedScope (declared es)) (q : S
     whole p e vs m =
         let over : IsSettingOver (declared es) (setting (declared es) k) = record { interpretation = k; chosen = chosen; meant = refl } in
         let x = procedure_whole es scope q t (setting (declared es) k) fits over p e in
-        let a = x.found in
-        let g = setting (declared es) k in
-        let from : Memory = record { globals = m.globals; frame = new_frame g a.params a.locals vs } in
-        subst (λ o. total (outcomes_of g o vs m) ≡ outcome_denominator g o) (sym (linked_there es scope k chosen p a x.declared))
-        (mass-dmap (λ n. outcome n.globals (valued g closed a.value n)) (run g closed a.body.list from) (λ n. 1) ∙ x.total closed from)
+        subst (λ o. total (outcomes_of (setting (declared es) k) o vs m) ≡ outcome_denominator (setting (declared es) k) o) (sym x.there) (x.total vs m.globals)
 
   known : InEachSequent (declared es) q Known
   known =

@@ -60,6 +60,7 @@ fn answer(
     let env = Env {
         script: script_of(scope),
         reads: &[],
+        exclusions: &[],
         labels,
     };
     match found(alloc, call, &goal.conclusion, &env) {

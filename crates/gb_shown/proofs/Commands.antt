@@ -133,7 +133,8 @@ module _ (o : Grounds) (names : Names) (es : List Enumeration) (s : Session) (g 
   loops_named : (f : Found) → procedure_of s.scope (named f.0) ≡ Some f.1 → (is_path (path_of f.0) ≡ true) × AllByRecursion (IsNamedSequent es) (goals_of f.1.body.list)
   loops_named f there =
       let x = names_found es s.scope k.scope f.0.module f.0.name f.1 there in
-      let p = procedures_named es s.scope k.scope (named f.0) (found_written es s.scope k.scope f.0.module f.0.name f.1 there) f.1 there in
+      let all = procedures_named es s.scope k.scope in
+      let p = all.declared (named f.0) (found_written es s.scope k.scope f.0.module f.0.name f.1 there) f.1 there in
       let w = typed_there s.scope g.typed (over_none (zero_of ty.Bool)) tt [] (named f.0) f.1 there in
       let typed = w.typed in
       let body = typed.body in

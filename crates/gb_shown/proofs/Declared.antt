@@ -4,13 +4,18 @@ use Rattle.std.proofs.lemmas.Bool.{false≢true}
 use Rattle.std.proofs.lemmas.Slice.Eq.{bytes_eq-Decides}
 use Rattle.std.specs.List.{AllByRecursion, slice_get}
 use Rattle.gb_core.specs.declared.place.Place.{Place}
+use Rattle.gb_core.specs.declared.refusal.Why.TheVariants.{UnknownName}
 use Rattle.gb_core.specs.declared.ty.Ty as X
 use Rattle.gb_core.specs.declared.ty.Ty.{Ty, out-Ty}
 use Rattle.gb_core.specs.declared.ty.Ty.TheVariants as ty
 use Rattle.gb_core.specs.declared.ty.Ty.TheOpen as ty_layer
 use Rattle.gb_terms.specs.declared.decl.Param.{Param}
+use Rattle.gb_goal.specs.Answers.{given_or}
 use Rattle.gb_goal.specs.Answers.Answer.{given}
-use Rattle.gb_goal.specs.Scope.{Declarations, entry_of}
+use Rattle.gb_goal.specs.Interfaces.{signatures_of}
+use Rattle.gb_goal.specs.Scope.{Declarations, entry_of, module_type_of}
+use Rattle.gb_goal.specs.declared.module_type.MayCall.{MayCall}
+use Rattle.gb_goal.specs.declared.module_type.Oracle.{Oracle}
 use Rattle.gb_goal.specs.declared.module_type.Signature.{Signature}
 use Rattle.gb_goal.specs.declared.scope.Entry.{Entry}
 use Rattle.gb_goal.specs.declared.scope.Entry.TheVariants as entry
@@ -21,20 +26,24 @@ use Rattle.gb_script.specs.Tree.{head_of, text_of, parts_of, place_of}
 use Rattle.gb_names.specs.Types.{type_of}
 use Rattle.gb_elab_prog.specs.Entries.{entries_by, entries_given}
 use Rattle.gb_elab_prog.specs.Fresh.{free}
-use Rattle.gb_elab_prog.specs.ModuleTypes.{may_call, module_type_entries, parameters, signature, signatures, signed, unsigned}
+use Rattle.gb_elab_prog.specs.Bound.{parameter_name}
+use Rattle.gb_elab_prog.specs.ModuleTypes.{may_call, module_type_at, module_type_entries, oracle, oracles, param, parameter, parameters, signature, signatures, signatures_named as signatures_of_parameter, signed, unsigned, without_parameters}
 use Rattle.gb_elab_prog.specs.Operators.{operator_entry}
 use Rattle.gb_elab_prog.specs.Procedures.{formals, result_type}
 use Rattle.gb_elab_prog.specs.Types.{only, new, constants as declared_constants, without, enumeration as declared_enumeration, enumeration_type, type_entries}
-use Rattle.gb_elab_laws.proofs.Given.{given_bind, given_is, if_refused}
+use Rattle.gb_elab_laws.proofs.Given.{given_bind, given_is, if_refused, some_given}
 use Rattle.gb_shapes.specs.declared.place.Enumeration.{Enumeration}
 use Rattle.gb_print_names.specs.Names.{constants}
-use Rattle.gb_readback.specs.Written.{is_name_there, is_path, is_path_there, is_word_here}
+use Rattle.gb_readback.specs.Written.{is_name_text, is_name_there, is_path, is_path_there, is_word_here}
 use Rattle.gb_readback.specs.Written as w
 use Rattle.gb_spelt_laws.specs.Named.{IsNamedVariable}
 use Rattle.gb_spelt_laws.specs.Rules.{IsNamedLocal}
 use Rattle.gb_spelt_laws.proofs.Sequents.{all_append}
-use Rattle.gb_shown.specs.Scopes.{IsNamedEntry, IsNamedScope, IsNamedSignature}
+use Rattle.gb_shown.specs.Scopes.{AreNamedOracles, IsNamedEntry, IsNamedOracle, IsNamedParam, IsNamedScope, IsNamedSignature}
 use Rattle.gb_shown.specs.Words.{HasItsNames, IsName, IsReadTree}
+use Rattle.gb_mods.specs.Asked.{signature_of}
+use Rattle.gb_shown.proofs.Asked.{signature_found, signatures_there}
+use Rattle.gb_shown.proofs.Given.{same_some}
 use Rattle.gb_shown.proofs.Paths.{name_is_path}
 use Rattle.gb_session.specs.Commands.{enumerated, enumeration}
 use Rattle.gb_shown.proofs.Entries.{operator_entry_named}
@@ -159,39 +168,95 @@ module _ (forms : OfForms) (es : List Enumeration) (ds : Declarations) (k : IsNa
   abbrev AreSignatures : List Signature → Type 0
   AreSignatures ss = AllByRecursion IsNamedSignature ss
 
-  signed_named : (qs : List Param) (x : Node) → IsName x → (fs r os : Node) → IsReadTree fs → IsReadTree r → (s : Signature) → signed ds qs x fs r os ≡ given s → IsNamedSignature s
-  signed_named qs x n fs r os h u s e =
+  -- the procedures of a parameter, which has a name
+  params_found : (qs : List Param) → AllByRecursion IsNamedParam qs → (x : List ℕ) (ss : List Signature) → signatures_of_parameter ds qs x ≡ Some ss → (is_name_text x ≡ true) × AreSignatures ss
+  params_found [] w x ss e = absurd (cc)
+  params_found (q ∷ qs) w x ss e = step (bytes_eq q.name x) refl (params_found qs w.1 x ss) e
+    where
+      step : (b : Bool) → bytes_eq q.name x ≡ b → (signatures_of_parameter ds qs x ≡ Some ss → (is_name_text x ≡ true) × AreSignatures ss) →
+          (if b then Some (signatures_of (module_type_of ds q.ty)) else signatures_of_parameter ds qs x) ≡ Some ss → (is_name_text x ≡ true) × AreSignatures ss
+      step true i later f = (ap is_name_text (sym ((bytes_eq-Decides q.name x).0 i)) ∙ w.0, subst AreSignatures (same_some f) (signatures_there es ds k q.ty))
+      step false i later f = later f
+
+  oracle_named : (qs : List Param) → AllByRecursion IsNamedParam qs → (h : Head) (ns : List Node) (p : Place) (o : Oracle) → oracle ds qs h ns p ≡ given o → IsNamedOracle o
+  oracle_named qs w head.Oracle (x ∷ f ∷ []) p o e =
+      let a = given_bind (given_or (signatures_of_parameter ds qs (text_of x)) (UnknownName (text_of x)) (place_of x)) _ o e in
+      let s = params_found qs w (text_of x) a.0 (some_given (signatures_of_parameter ds qs (text_of x)) (UnknownName (text_of x)) (place_of x) a.0 a.1) in
+      let b = given_bind (given_or (signature_of a.0 (text_of f)) (UnknownName (text_of f)) (place_of f)) _ o a.2 in
+      subst IsNamedOracle (given_is _ o b.2) (s.0, (signature_found a.0 s.1 (text_of f) b.0 (some_given (signature_of a.0 (text_of f)) (UnknownName (text_of f)) (place_of f) b.0 b.1)).0)
+  oracle_named qs w head.Oracle [] p o e = absurd (cc)
+  oracle_named qs w head.Oracle (x ∷ []) p o e = absurd (cc)
+  oracle_named qs w head.Oracle (x ∷ f ∷ y ∷ ns) p o e = absurd (cc)
+  oracle_named qs w _ ns p o e = absurd (cc)
+
+  oracles_named : (qs : List Param) → AllByRecursion IsNamedParam qs → (os : List Oracle) → AllByRecursion IsNamedOracle os → (ts : List Node) (us : List Oracle) → oracles ds qs os ts ≡ given us → AllByRecursion IsNamedOracle us
+  oracles_named qs w os v [] us e = subst (AllByRecursion IsNamedOracle) (given_is os us e) v
+  oracles_named qs w os v (t ∷ ts) us e =
+      let a = given_bind (oracle ds qs (head_of t) (parts_of t) (place_of t)) _ us e in
+      oracles_named qs w (os ++ a.0 ∷ []) (all_append IsNamedOracle os (a.0 ∷ []) v (oracle_named qs w (head_of t) (parts_of t) (place_of t) a.0 a.1, tt)) ts us a.2
+
+  may_call_named : (qs : List Param) → AllByRecursion IsNamedParam qs → (h : Head) (ns : List Node) (p : Place) (m : MayCall) → may_call ds qs h ns p ≡ given m → AreNamedOracles m
+  may_call_named qs w head.AllOracles ns p m e = subst AreNamedOracles (given_is _ m e) tt
+  may_call_named qs w head.Oracles ns p m e = let a = given_bind (oracles ds qs [] ns) _ m e in subst AreNamedOracles (given_is _ m a.2) (oracles_named qs w [] tt ns a.0 a.1)
+  may_call_named qs w _ ns p m e = absurd (cc)
+
+  signed_named : (qs : List Param) → AllByRecursion IsNamedParam qs → (x : Node) → IsName x → (fs r os : Node) → IsReadTree fs → IsReadTree r → (s : Signature) → signed ds qs x fs r os ≡ given s → IsNamedSignature s
+  signed_named qs w x n fs r os h u s e =
       let a = given_bind (formals ds [] (parts_of fs)) _ s e in
       let b = given_bind (result_type ds (parts_of r)) _ s a.2 in
       let c = given_bind (may_call ds qs (head_of os) (parts_of os) (place_of os)) _ s b.2 in
       let params = all_so (IsNamedLocal es) IsNamedVariable (λ v l. l.0) a.0 (formals_named forms es ds k [] tt (parts_of fs) (parts_read fs h) a.0 a.1) in
-      subst IsNamedSignature (given_is _ s c.2) (record { name = n; typed = record { params = params; result = result_named forms es ds k (parts_of r) (parts_read r u) b.0 b.1 } })
+      subst IsNamedSignature (given_is _ s c.2) (record {
+        name = n;
+        typed = record { params = params; result = result_named forms es ds k (parts_of r) (parts_read r u) b.0 b.1 };
+        oracles = may_call_named qs w (head_of os) (parts_of os) (place_of os) c.0 c.1;
+      })
 
-  signature_named : (qs : List Param) (ss : List Signature) → AreSignatures ss → (h : Head) (ns : List Node) → HasItsNames h ns → AreRead ns → (p : Place) (us : List Signature) → signature ds qs ss h ns p ≡ given us → AreSignatures us
-  signature_named qs ss w head.Signature (x ∷ fs ∷ r ∷ os ∷ []) n m p us e =
+  signature_named : (qs : List Param) → AllByRecursion IsNamedParam qs → (ss : List Signature) → AreSignatures ss → (h : Head) (ns : List Node) → HasItsNames h ns → AreRead ns → (p : Place) (us : List Signature) → signature ds qs ss h ns p ≡ given us → AreSignatures us
+  signature_named qs v ss w head.Signature (x ∷ fs ∷ r ∷ os ∷ []) n m p us e =
       let a = given_bind (unsigned ss x) _ us e in
       let b = given_bind (signed ds qs x fs r os) _ us a.2 in
-      subst AreSignatures (given_is _ us b.2) (all_append IsNamedSignature ss (b.0 ∷ []) w (signed_named qs x n fs r os m.1.0 m.1.1.0 b.0 b.1, tt))
-  signature_named qs ss w head.Signature [] n m p us e = absurd (cc)
-  signature_named qs ss w head.Signature (x ∷ []) n m p us e = absurd (cc)
-  signature_named qs ss w head.Signature (x ∷ a ∷ []) n m p us e = absurd (cc)
-  signature_named qs ss w head.Signature (x ∷ a ∷ b ∷ []) n m p us e = absurd (cc)
-  signature_named qs ss w head.Signature (x ∷ a ∷ b ∷ c ∷ d ∷ ns) n m p us e = absurd (cc)
-  signature_named qs ss w _ ns n m p us e = absurd (cc)
+      subst AreSignatures (given_is _ us b.2) (all_append IsNamedSignature ss (b.0 ∷ []) w (signed_named qs v x n fs r os m.1.0 m.1.1.0 b.0 b.1, tt))
+  signature_named qs v ss w head.Signature [] n m p us e = absurd (cc)
+  signature_named qs v ss w head.Signature (x ∷ []) n m p us e = absurd (cc)
+  signature_named qs v ss w head.Signature (x ∷ a ∷ []) n m p us e = absurd (cc)
+  signature_named qs v ss w head.Signature (x ∷ a ∷ b ∷ []) n m p us e = absurd (cc)
+  signature_named qs v ss w head.Signature (x ∷ a ∷ b ∷ c ∷ d ∷ ns) n m p us e = absurd (cc)
+  signature_named qs v ss w _ ns n m p us e = absurd (cc)
 
-  signatures_named : (qs : List Param) (ss : List Signature) → AreSignatures ss → (ts : List Node) → AreRead ts → (us : List Signature) → signatures ds qs ss ts ≡ given us → AreSignatures us
-  signatures_named qs ss w [] r us e = subst AreSignatures (given_is ss us e) w
-  signatures_named qs ss w (t ∷ ts) r us e =
+  signatures_named : (qs : List Param) → AllByRecursion IsNamedParam qs → (ss : List Signature) → AreSignatures ss → (ts : List Node) → AreRead ts → (us : List Signature) → signatures ds qs ss ts ≡ given us → AreSignatures us
+  signatures_named qs v ss w [] r us e = subst AreSignatures (given_is ss us e) w
+  signatures_named qs v ss w (t ∷ ts) r us e =
       let a = given_bind (signature ds qs ss (head_of t) (parts_of t) (place_of t)) _ us e in
-      signatures_named qs a.0 (signature_named qs ss w (head_of t) (parts_of t) (names_of t r.0) (parts_read t r.0) (place_of t) a.0 a.1) ts r.1 us a.2
+      signatures_named qs v a.0 (signature_named qs v ss w (head_of t) (parts_of t) (names_of t r.0) (parts_read t r.0) (place_of t) a.0 a.1) ts r.1 us a.2
 
-  module_type_named : (x : Node) → IsName x → (ps ts : List Node) → AreRead ts → (added : Declarations) → module_type_entries ds x ps ts ≡ given added → AddsNamed [] added
+  -- the parameters of a module type
+  parameter_named : (qs : List Param) → AllByRecursion IsNamedParam qs → (h : Head) (ns : List Node) → HasItsNames h ns → (p : Place) (us : List Param) → parameter ds qs h ns p ≡ given us → AllByRecursion IsNamedParam us
+  parameter_named qs w head.ModuleParameter (x ∷ t ∷ []) n p us e =
+      let a = given_bind (parameter_name ds None qs x) _ us e in
+      let b = given_bind (module_type_at ds t) _ us a.2 in
+      let c = given_bind (without_parameters (let m = b.0 in m.params) (place_of t)) _ us b.2 in
+      subst (AllByRecursion IsNamedParam) (given_is _ us c.2) (all_append IsNamedParam qs (param x t ∷ []) w (n, tt))
+  parameter_named qs w head.ModuleParameter [] n p us e = absurd (cc)
+  parameter_named qs w head.ModuleParameter (x ∷ []) n p us e = absurd (cc)
+  parameter_named qs w head.ModuleParameter (x ∷ t ∷ u ∷ ns) n p us e = absurd (cc)
+  parameter_named qs w _ ns n p us e = absurd (cc)
+
+  parameters_named : (qs : List Param) → AllByRecursion IsNamedParam qs → (ts : List Node) → AreRead ts → (us : List Param) → parameters ds qs ts ≡ given us → AllByRecursion IsNamedParam us
+  parameters_named qs w [] r us e = subst (AllByRecursion IsNamedParam) (given_is qs us e) w
+  parameters_named qs w (t ∷ ts) r us e =
+      let a = given_bind (parameter ds qs (head_of t) (parts_of t) (place_of t)) _ us e in
+      parameters_named a.0 (parameter_named qs w (head_of t) (parts_of t) (names_of t r.0) (place_of t) a.0 a.1) ts r.1 us a.2
+
+  module_type_named : (x : Node) → IsName x → (ps ts : List Node) → AreRead ps → AreRead ts → (added : Declarations) → module_type_entries ds x ps ts ≡ given added → AddsNamed [] added
   unfolding module_type_entries
-  module_type_named x n ps ts r added e =
+  module_type_named x n ps ts s r added e =
       let a = given_bind (free ds x) _ added e in
       let b = given_bind (parameters ds [] ps) _ added a.2 in
       let c = given_bind (signatures ds b.0 [] ts) _ added b.2 in
-      subst (AddsNamed []) (given_is _ added c.2) (one_added x n (entry.ModuleType (record { params = b.0; signatures = c.0 })) (signatures_named b.0 [] tt ts r c.0 c.1))
+      let params = parameters_named [] tt ps s b.0 b.1 in
+      subst (AddsNamed []) (given_is _ added c.2)
+      (one_added x n (entry.ModuleType (record { params = b.0; signatures = c.0 })) (record { params = params; signatures = signatures_named b.0 params [] tt ts r c.0 c.1 }))
 
   entries_by_named : (h : Head) (ps : List Node) → HasItsNames h ps → AreRead ps → (p : Place) (added : Declarations) → entries_by ds h ps p ≡ given added → AddsNamed (enumerated h ps) added
   entries_by_named head.TypeDeclaration (x ∷ d ∷ []) n r p added e =
@@ -208,7 +273,7 @@ module _ (forms : OfForms) (es : List Enumeration) (ds : Declarations) (k : IsNa
   entries_by_named head.OperatorDeclaration [] n r p added e = absurd (cc)
   entries_by_named head.OperatorDeclaration (x ∷ []) n r p added e = absurd (cc)
   entries_by_named head.OperatorDeclaration (x ∷ d ∷ y ∷ ps) n r p added e = absurd (cc)
-  entries_by_named head.ModuleType (x ∷ qs ∷ ss ∷ []) n r p added e = module_type_named x n (parts_of qs) (parts_of ss) (parts_read ss r.1.1.0) added e
+  entries_by_named head.ModuleType (x ∷ qs ∷ ss ∷ []) n r p added e = module_type_named x n (parts_of qs) (parts_of ss) (parts_read qs r.1.0) (parts_read ss r.1.1.0) added e
   entries_by_named head.ModuleType [] n r p added e = absurd (cc)
   entries_by_named head.ModuleType (x ∷ []) n r p added e = absurd (cc)
   entries_by_named head.ModuleType (x ∷ qs ∷ []) n r p added e = absurd (cc)

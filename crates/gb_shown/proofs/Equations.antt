@@ -1,13 +1,14 @@
 -- Equations of variables of two programs, and of all globals of a module, are named.
-use Rattle.std.proofs.Common.{◌≡◌, true, List, [], ◌∷◌, is_none, Option, Some, None, refl, subst}
+use Rattle.std.proofs.Common.{◌≡◌, Bool, true, false, if◌then◌else◌, List, [], ◌∷◌, is_none, is_some, Option, Some, None, option_map, refl, ap, subst}
 use Rattle.gb_core.specs.declared.place.Place.{Place}
 use Rattle.gb_core.specs.declared.refusal.Why.TheVariants.{Argument, TypeMismatch}
 use Rattle.gb_core.specs.declared.ty.Ty.{Ty}
 use Rattle.gb_core.specs.declared.ty.Ty.TheVariants as ty
 use Rattle.gb_core.specs.declared.var.Var.{Var}
-use Rattle.gb_core.specs.declared.var.Var.TheVariants.{Global}
+use Rattle.gb_core.specs.declared.var.Var.TheVariants.{Glob, Global, Local}
 use Rattle.gb_core.specs.SameTypes.{ty_eq}
 use Rattle.gb_terms.specs.declared.decl.Module.{Module}
+use Rattle.gb_terms.specs.declared.module.Bind.{Bind}
 use Rattle.gb_terms.specs.declared.module.Mexp.{Mexp}
 use Rattle.gb_terms.specs.declared.op.Op.TheVariants as op
 use Rattle.gb_terms.specs.declared.op.Side.{Side}
@@ -20,22 +21,21 @@ use Rattle.gb_script.specs.declared.head.Head.TheVariants as head
 use Rattle.gb_script.specs.declared.tree.Node.{Node}
 use Rattle.gb_script.specs.Tree.{head_of, parts_of, place_of, text_of}
 use Rattle.gb_goal.specs.Answers.{◌>>=◌}
-use Rattle.gb_goal.specs.Answers.Answer.{given}
-use Rattle.gb_goal.specs.Scope.{module_of}
+use Rattle.gb_goal.specs.Answers.Answer.{given, refused}
+use Rattle.gb_goal.specs.Scope.{abstract_of, module_of}
 use Rattle.gb_mods.specs.Footprint.{footprint}
 use Rattle.gb_names.specs.declared.bindings.Binding.{Binding}
 use Rattle.gb_names.specs.Environment.{Name, Environment, on_side}
-use Rattle.gb_names.specs.Modules.{whole_module}
 use Rattle.gb_names.specs.Names.{ModuleVariable, global_in, global_variable, path, sided}
 use Rattle.gb_names.specs.Wanted.{truth, type_of_term}
 use Rattle.gb_elab.specs.Equalities.{equalities, equality, equation, equation_of, joined, with_equalities}
-use Rattle.gb_elab.specs.Globs.{Seen, agreement, agreement_on, agreements, agrees, behind_if, global_named, same_globals, true_if_none, whole_equation, whole_read, with_agreement}
+use Rattle.gb_elab.specs.Globs.{Seen, agreed, agreement, agreement_on, agreements, agrees, as_value, behind_if, global_named, owner, same_globals, true_if_none, two_owners, whole_agrees, whole_equation, whole_read, whole_value, with_agreement}
 use Rattle.gb_shapes.specs.declared.place.Enumeration.{Enumeration}
 use Rattle.gb_spelt_laws.specs.Named.{IsNamed}
 use Rattle.gb_shown.specs.Scopes.{IsNamedModule, IsNamedSetting, AreNamedBindings}
-use Rattle.gb_shown.proofs.Given.{given_bind, given_is, if_allowed, if_refused, same_some}
+use Rattle.gb_shown.proofs.Given.{given_bind, given_is, not_given, if_allowed, if_refused, same_some}
 use Rattle.gb_shown.proofs.FoundInForms.{module_found}
-use Rattle.gb_shown.proofs.Leaves.{IsNamedGlobal, global_read, in_module, sided_read}
+use Rattle.gb_shown.proofs.Leaves.{IsNamedGlobal, global_read, in_module, sided_read, whole_named}
 use Rattle.gb_shown.proofs.Constants.{truth_named}
 use Rattle.gb_shown.proofs.MadeForms.{operated}
 
@@ -66,13 +66,26 @@ module _ (es : List Enumeration) (at : Environment) (fit : IsNamedSetting es at)
   behind_named (Some f) e h k = joined_with f e h k
 
   module _ (s r : Side) where
+    global_agreed : (x : Var) (g : Option ModuleVariable) → global_named at.declared x ≡ g → IsNamedIf (option_map (agrees s r) g)
+    global_agreed x None e = tt
+    global_agreed x (Some g) e = let n = global_is x g e in equal_named (global_variable s g) (global_variable r g) (global_read es s g n) (global_read es r g n)
+
+    whole_agreed : (a : Name) (b : Option Bind) → abstract_of at.declared a ≡ b → IsNamedIf (option_map (λ b. whole_agrees s r a) b)
+    whole_agreed a None e = tt
+    whole_agreed a (Some b) e = let i = ap is_some e in equal_named (whole_value s a) (whole_value r a) (whole_named es at fit s a i) (whole_named es at fit r a i)
+
+    agreed_named : (x : Var) → IsNamedIf (agreed at.declared s r x)
+    agreed_named (Glob a) = whole_agreed a (abstract_of at.declared a) refl
+    agreed_named (Global n x) = global_agreed (Global n x) (global_named at.declared (Global n x)) refl
+    agreed_named (Local x) = tt
+
+    with_named : (o q : Option Term) → IsNamedIf o → IsNamedIf q → IsNamedIf (with_agreement o q)
+    with_named o None h k = h
+    with_named o (Some f) h k = behind_named o f h k
+
     agreements_named : (o : Option Term) (xs : List Var) → IsNamedIf o → IsNamedIf (agreements at.declared s r o xs)
     agreements_named o [] h = h
-    agreements_named o (x ∷ xs) h = agreements_named (with_agreement s r o (global_named at.declared x)) xs (step (global_named at.declared x) refl)
-      where
-        step : (g : Option ModuleVariable) → global_named at.declared x ≡ g → IsNamedIf (with_agreement s r o g)
-        step None e = h
-        step (Some g) e = let n = global_is x g e in behind_named o (agrees s r g) h (equal_named (global_variable s g) (global_variable r g) (global_read es s g n) (global_read es r g n))
+    agreements_named o (x ∷ xs) h = agreements_named (with_agreement o (agreed at.declared s r x)) xs (with_named o (agreed at.declared s r x) h (agreed_named x))
 
     all_agree : (o : Option Term) → IsNamedIf o → IsNamed es (true_if_none o)
     all_agree None h = truth_named es true
@@ -88,7 +101,14 @@ module _ (es : List Enumeration) (at : Environment) (fit : IsNamedSetting es at)
   -- `={glob M}`
   same_globals_named : (t : Node) (u : Term) → same_globals at bs t ≡ given u → IsNamed es u
   same_globals_named t u e =
-      let m = given_bind (whole_module at bs t) (λ m. agreement at.declared m side.Left side.Right (place_of t)) u e in agreement_named side.Left side.Right m.0 (place_of t) u m.2
+      let m = given_bind (owner at bs t) (λ m. agreement at.declared m side.Left side.Right (place_of t)) u e in agreement_named side.Left side.Right m.0 (place_of t) u m.2
+
+  of_both_named : (l r : Mexp × Side) (p q t : Place) (b : Bool) (u : Term) → (if b then agreement at.declared l.0 l.1 r.1 p else two_owners at.declared l r q t) ≡ given u → IsNamed es u
+  of_both_named l r p q t true u e = agreement_named l.1 r.1 l.0 p u e
+  of_both_named l r p q t false u e =
+      let a = given_bind (as_value at.declared l q) (λ _. as_value at.declared r t >>= λ _. refused TypeMismatch t) u e in
+      let b = given_bind (as_value at.declared r t) (λ _. refused TypeMismatch t) u a.2 in
+      absurd (not_given TypeMismatch t u b.2)
 
   -- an equation in two memories
   pub whole_equation_named : (w : Option Ty) (p : Place) (a b : Seen) (u : Term) → whole_equation at bs w p a b ≡ given u → IsNamed es u
@@ -96,7 +116,7 @@ module _ (es : List Enumeration) (at : Environment) (fit : IsNamedSetting es at)
       let q = given_bind (truth w p) _ u e in
       let l = given_bind (whole_read at bs a) _ u q.2 in
       let r = given_bind (whole_read at bs b) _ u l.2 in
-      let k = if_allowed (mexp_eq l.0.0 r.0.0) (agreement at.declared l.0.0 l.0.1 r.0.1 p) Argument a.2 u r.2 in agreement_named l.0.1 r.0.1 l.0.0 p u k.1
+      of_both_named l.0 r.0 p a.2 b.2 (mexp_eq l.0.0 r.0.0) u r.2
 
   -- the equality of a variable of two programs
   equality_named : (x : Name) (p : Place) (u : Term) → equality at bs x p ≡ given u → IsNamed es u

@@ -57,7 +57,7 @@ use Rattle.gb_operators.specs.Rules.{asked, made, rule_for, rule_of, user_made}
 use Rattle.gb_elab.specs.declared.contract.Contract.{Contract}
 use Rattle.gb_elab.specs.OneProcedure.{after_one, always, around, before_one, relation, with_chance}
 use Rattle.gb_elab.specs.Probability.{before_call, chance, chance_here}
-use Rattle.gb_elab.specs.Globs.{Seen, bare_glob, both_whole}
+use Rattle.gb_elab.specs.Globs.{Seen, bare_glob, both_whole, whole_alone}
 use Rattle.gb_elab.specs.Forms.{Arguing, Contracting, Typing, Meaning, annotated, applied, applied_form, application, arguing, arguments, arguments_of, bare, bounded, bracketed, by_rule, call, comparing, contract, contracting, contract_of, declared, elaborated, equivalence, function, hoare, function_typing, last_arguments, meaning, meant, only, operand, operands, operation, operator_alone, probability, projection, quantified, read, simple, summed, typing, under, user_call, value_of, with_meanings, with_side}
 use Rattle.gb_shapes.specs.declared.place.Enumeration.{Enumeration}
 use Rattle.gb_readback.specs.Written.{in_range, IsWrittenProcedure}
@@ -70,7 +70,7 @@ use Rattle.gb_shown.proofs.Types.{as_result}
 use Rattle.gb_shown.proofs.FoundInForms.{constant_found, operator_found}
 use Rattle.gb_shown.proofs.Spelled.{measured_named, spelled_named}
 use Rattle.gb_shown.proofs.MadeForms.{Suits, IsNamedDomain, IsNamedRule, IsNamedAsked, AreReady, ready_behind, asked_named, made_named}
-use Rattle.gb_shown.proofs.Leaves.{named_read, none_alone, form_read}
+use Rattle.gb_shown.proofs.Leaves.{named_read, whole_alone_named, form_read}
 use Rattle.gb_shown.proofs.Constants.{coin_named, constant_named as built_in_named, literal_named, numeral_named, uniform_named, unit_named, wanted_named}
 use Rattle.gb_shown.proofs.Weighed.{weights_named}
 use Rattle.gb_shown.proofs.Equations.{equalities_named, whole_equation_named}
@@ -416,7 +416,9 @@ module _ (es : List Enumeration) where
   form_parts head.Weights x ns y k p at bs fit bound w f u e = weights_named es at fit.scope bs (bare (with_meanings ns)) p w u e
   form_parts head.Apply x ns y k p at bs fit bound w f u e = applied_form_named ns k p at bs fit bound w f u e
   form_parts head.Equalities x ns y k p at bs fit bound w f u e = equalities_named es at fit bs bound (bare (with_meanings ns)) w p u e
-  form_parts head.Glob x ns y k p at bs fit bound w f u e = absurd (none_alone es at fit bs bound (bare_glob (bare (with_meanings ns)) None p) p u e)
+  form_parts head.Glob x ns y k p at bs fit bound w f u e =
+      let q = given_bind (whole_alone at bs (bare_glob (bare (with_meanings ns)) None p) p) (wanted w p) u e in
+      wanted_named es w p q.0 u (whole_alone_named es at fit bs bound (bare_glob (bare (with_meanings ns)) None p) p q.0 q.1) q.2
   form_parts head.Compared x ns y k p at bs fit bound w f u e = comparing_named (both_whole x (bare (with_meanings ns))) x ns k p at bs fit bound w f u e
   form_parts head.Quantified x ns y k p at bs fit bound w f u e = quantified_named x ns k p at bs fit bound w f u e
   form_parts head.Equiv x ns y k p at bs fit bound w f u e = equivalence_named ns k p at bs fit bound w f u e

@@ -27,7 +27,7 @@ use Rattle.gb_readback.proofs.LeavesShown.{one_word, all_bytes}
 use Rattle.gb_spelt_laws.specs.Named.{IsNamedType, IsNamedResult, IsNamedVariable}
 use Rattle.gb_spelt_laws.specs.Rules.{HasFirst}
 use Rattle.gb_spelt_laws.proofs.Trees.{parts_named}
-use Rattle.gb_shown.specs.Scopes.{IsNamedModule, IsNamedSignature, IsNamedEntry, IsNamedScope, IsNamedLocal, IsNamedKind, AreNamedBindings}
+use Rattle.gb_shown.specs.Scopes.{IsNamedModule, IsNamedModuleType, IsNamedSignature, IsNamedEntry, IsNamedScope, IsNamedLocal, IsNamedKind, AreNamedBindings}
 use Rattle.gb_shown.proofs.Given.{same_some}
 use Rattle.gb_shown.proofs.Types.{as_result}
 
@@ -116,10 +116,13 @@ module _ (es : List Enumeration) where
         step (entry.Module k) p n j = (p, subst (IsNamedModule es) (same_some j) n)
         step _ p n j = cc
 
-    -- the procedures that a module type asks for
-    pub type_signatures : (x : Name) (t : ModuleType) → module_type_of ds x ≡ Some t → AllByRecursion IsNamedSignature t.signatures
-    type_signatures x t i = by_entry (λ (t : ModuleType). AllByRecursion IsNamedSignature t.signatures) as_module_type x t step (λ e. cc) i
+    -- a module type, and the procedures that it asks for
+    pub module_type_found : (x : Name) (t : ModuleType) → module_type_of ds x ≡ Some t → IsNamedModuleType t
+    module_type_found x t i = by_entry IsNamedModuleType as_module_type x t step (λ e. cc) i
       where
-        step : (e : Entry) → is_path x ≡ true → IsNamedEntry es e → as_module_type (Some e) ≡ Some t → AllByRecursion IsNamedSignature t.signatures
-        step (entry.ModuleType u) p n j = subst (λ (t : ModuleType). AllByRecursion IsNamedSignature t.signatures) (same_some j) n
+        step : (e : Entry) → is_path x ≡ true → IsNamedEntry es e → as_module_type (Some e) ≡ Some t → IsNamedModuleType t
+        step (entry.ModuleType u) p n j = subst IsNamedModuleType (same_some j) n
         step _ p n j = cc
+
+    pub type_signatures : (x : Name) (t : ModuleType) → module_type_of ds x ≡ Some t → AllByRecursion IsNamedSignature t.signatures
+    type_signatures x t i = let n = module_type_found x t i in n.signatures

@@ -6,13 +6,14 @@ use Rattle.std.specs.Option.{option_map}
 use Rattle.gb_terms.specs.declared.decl.Module.{Module}
 use Rattle.gb_terms.specs.declared.decl.Param.{Param}
 use Rattle.gb_terms.specs.declared.decl.Proc.{Proc}
+use Rattle.gb_terms.specs.declared.module.Bind.{Bind}
 use Rattle.gb_terms.specs.declared.module.Mexp.{Mexp}
 use Rattle.gb_terms.specs.declared.module.Mexp.TheVariants as mexp
 use Rattle.gb_terms.specs.declared.module.Mexp.TheVariants.{Apply'}
 use Rattle.gb_terms.specs.Rows.{mexps_in}
 use Rattle.gb_goal.specs.Instances.{instance}
 use Rattle.gb_goal.specs.Interfaces.{suits}
-use Rattle.gb_goal.specs.Scope.{Declarations, entry_of, as_module, instance_at, module_of, proc_of, proc_if_plain, proc_in, proc_at, procedure_of}
+use Rattle.gb_goal.specs.Scope.{Declarations, entry_of, as_abstract, as_module, instance_at, module_of, proc_of, proc_if_plain, proc_in, proc_at, procedure_of}
 use Rattle.gb_goal.specs.declared.scope.Entry.{Entry}
 use Rattle.gb_goal.specs.declared.scope.Entry.TheVariants as entry
 use Rattle.gb_shapes.specs.declared.place.Enumeration.{Enumeration}
@@ -20,6 +21,7 @@ use Rattle.gb_readback.specs.Written.{is_name_text, is_path, IsWrittenModule, Is
 use Rattle.gb_spelt_laws.specs.Named.{IsNamedVariable}
 use Rattle.gb_spelt_laws.specs.Rules.{IsNamedLocal, AreNamedProcedures, AreNamedGlobals, AreNamedOperators}
 use Rattle.gb_shown.specs.Scopes.{IsNamedMember, IsNamedModule, IsNamedEntry, IsNamedScope}
+use Rattle.gb_shown.proofs.Asked.{asked_named}
 use Rattle.gb_shown.proofs.Instances.{EachWritten, arguments_written, instance_named, name_written}
 use Rattle.gb_shown.proofs.Later.{all_so}
 
@@ -85,13 +87,10 @@ module _ (es : List Enumeration) where
   at_named ds k (Apply' m c args) w x p i = instance_found ds (module_of ds m) (mexps_in args) (arguments_written (Apply' m c args) w).1 x p (λ n j. module_named ds k m n j) i
 
   pub procedures_named : (ds : Declarations) → IsNamedScope es ds → AreNamedProcedures es ds
-  procedures_named ds k f w p i = let n = at_named ds k f.«module» w.module_is f.name p i in n.procedure
-
-  pub globals_named : (ds : Declarations) → IsNamedScope es ds → AreNamedGlobals ds
-  globals_named ds k x m i = let n = module_named ds k x m i in n.globals
-
-  pub operators_named : (ds : Declarations) → IsNamedScope es ds → AreNamedOperators es ds
-  operators_named ds k x o i = let n = entry_named ds k x (entry.Operator o) i in n.1
+  procedures_named ds k = record {
+    declared = λ f w p i. (let n = at_named ds k f.«module» w.module_is f.name p i in n.procedure);
+    asked = asked_named es ds k;
+  }
 
   -- what a name stands for is declared under a path
   pub name_found : (ds : Declarations) → IsNamedScope es ds → (x : List ℕ) (e : Entry) → entry_of ds x ≡ Some e → is_path x ≡ true
@@ -101,6 +100,20 @@ module _ (es : List Enumeration) where
       step : (b : Bool) → bytes_eq x d.0 ≡ b → (entry_of ds x ≡ Some e → is_path x ≡ true) → (if b then Some d.1 else entry_of ds x) ≡ Some e → is_path x ≡ true
       step true same behind j = subst (λ y. is_path y ≡ true) (sym ((bytes_eq-Decides x d.0).0 same)) k.0.0
       step false same behind j = behind j
+
+  -- an abstract module is declared under a path
+  abstract_found : (ds : Declarations) → IsNamedScope es ds → (x : List ℕ) (o : Option Entry) → entry_of ds x ≡ o → (b : Bind) → as_abstract o ≡ Some b → is_path x ≡ true
+  abstract_found ds k x None e b i = absurd (cc)
+  abstract_found ds k x (Some d) e b i = name_found ds k x d e
+
+  pub globals_named : (ds : Declarations) → IsNamedScope es ds → AreNamedGlobals ds
+  globals_named ds k = record {
+    declared = λ x m i. (let n = module_named ds k x m i in n.globals);
+    together = λ a b i. abstract_found ds k a (entry_of ds a) refl b i;
+  }
+
+  pub operators_named : (ds : Declarations) → IsNamedScope es ds → AreNamedOperators es ds
+  operators_named ds k x o i = let n = entry_named ds k x (entry.Operator o) i in n.1
 
   -- a procedure of a module has a name
   pub proc_found : (ps : List Proc) → AllByRecursion (IsNamedMember es) ps → (x : List ℕ) (p : Proc) → proc_of ps x ≡ Some p → is_name_text x ≡ true

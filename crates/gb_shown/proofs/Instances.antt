@@ -99,7 +99,7 @@ more_written m h (e ∷ es) k =
     has_one (m ∷ ms) = tt
 
 -- What stands for a name, where modules are given for parameters.
-stands_written : (ps : List Param) (es : List Mexp) → EachWritten es → (x : Name) → is_path x ≡ true → IsWrittenModule [] (stands_for ps es x)
+pub stands_written : (ps : List Param) (es : List Mexp) → EachWritten es → (x : Name) → is_path x ≡ true → IsWrittenModule [] (stands_for ps es x)
 stands_written [] es k x h = name_written x h
 stands_written (p ∷ ps) [] k x h = name_written x h
 stands_written (p ∷ ps) (e ∷ es) k x h = step (bytes_eq x p.name) (stands_written ps es k.1 x h)

@@ -7,9 +7,12 @@ use Rattle.std.proofs.lemmas.Slice.Eq.{bytes_eq-Decides}
 use Rattle.gb_core.specs.declared.place.Place.{Place}
 use Rattle.gb_core.specs.declared.refusal.Why.TheVariants.{Argument, UnknownName}
 use Rattle.gb_core.specs.declared.ty.Ty.{Ty}
-use Rattle.gb_core.specs.declared.var.Var.TheVariants.{Local, Global}
+use Rattle.gb_core.specs.declared.ty.Ty.TheVariants as ty
+use Rattle.gb_core.specs.declared.var.Var.TheVariants.{Local, Global, Glob}
 use Rattle.gb_terms.specs.declared.decl.Module.{Module}
 use Rattle.gb_terms.specs.declared.decl.TypedName.{TypedName}
+use Rattle.gb_terms.specs.declared.module.Mexp.{Mexp}
+use Rattle.gb_terms.specs.declared.module.Mexp.TheVariants.{Name as module_name, Apply'}
 use Rattle.gb_terms.specs.declared.op.Side.{Side}
 use Rattle.gb_terms.specs.declared.op.Side.TheVariants as side
 use Rattle.gb_terms.specs.declared.op.Read.TheVariants as read_of
@@ -21,7 +24,9 @@ use Rattle.gb_script.specs.declared.head.Head.TheVariants as head
 use Rattle.gb_script.specs.declared.tree.Node.{Node}
 use Rattle.gb_script.specs.Tree.{head_of, place_of, text_of}
 use Rattle.gb_goal.specs.Answers.Answer.{given, refused}
-use Rattle.gb_goal.specs.Scope.{module_of}
+use Rattle.gb_goal.specs.Instances.{name_of}
+use Rattle.gb_goal.specs.Scope.{abstract_of, as_abstract, entry_of, module_of}
+use Rattle.gb_goal.specs.declared.scope.Entry.{Entry}
 use Rattle.gb_names.specs.declared.bindings.Binding.{Binding}
 use Rattle.gb_names.specs.declared.bindings.Kind.{Kind}
 use Rattle.gb_names.specs.declared.bindings.Kind.TheVariants.{Value, Memory}
@@ -33,7 +38,7 @@ use Rattle.gb_names.specs.Locals.{locals_in}
 use Rattle.gb_names.specs.Names.{ModuleVariable, Target, beside, bound_thing, bound_variable, first_named, global_at, global_in, global_of, global_target, global_variable, has_memories, has_own, hidden, in_memory, logical_variable, may_name, memory_at, module_if, named, named_around, names_other, needs_side, no_variable, number_before, own_global, path, program_variable, read_global, side_of, sided, target, unbound, unsided, variable_on}
 use Rattle.gb_names.specs.Wanted.{counted}
 use Rattle.gb_elab.specs.Forms.{read}
-use Rattle.gb_elab.specs.Globs.{Seen, bare_glob, whole_alone, whole_read}
+use Rattle.gb_elab.specs.Globs.{Seen, as_value, bare_glob, is_abstract, whole_alone, whole_read, whole_value}
 use Rattle.gb_shapes.specs.declared.place.Enumeration.{Enumeration}
 use Rattle.gb_readback.specs.Written.{is_path, is_target_here}
 use Rattle.gb_spelt_laws.specs.Named.{IsNamedType, IsNamed, IsNamedVariable}
@@ -42,6 +47,7 @@ use Rattle.gb_shown.specs.Scopes.{IsNamedModule, IsNamedAround, IsNamedLocal, Ar
 use Rattle.gb_shown.proofs.Given.{given_bind, given_is, not_given, if_allowed, if_refused, same_some, chosen, both_true}
 use Rattle.gb_shown.proofs.Types.{as_result}
 use Rattle.gb_shown.proofs.FoundInForms.{path_of, variable_found, binding_found, module_found}
+use Rattle.gb_shown.proofs.FoundInScopes.{name_found}
 use Rattle.gb_shown.proofs.Recalled.{locals_named}
 
 mapped : {A B : Type 0} (f : A → B) (o : Option A) (y : B) → option_map f o ≡ Some y → (x : A) × (o ≡ Some x) × (f x ≡ y)
@@ -134,6 +140,25 @@ module _ (es : List Enumeration) where
     unbound_read : (bs : List Binding) (x : Name) (p : Place) (u : Term) → unbound at bs x p ≡ given u → IsNamed es u
     unbound_read bs x p u h = let k = if_refused (names_other at bs x) Argument p (refused (UnknownName x) p) u h in absurd (not_given (UnknownName x) p u k.1)
 
+    -- an abstract module that is declared has a path
+    abstract_path : (a : Name) (o : Option Entry) → entry_of at.declared a ≡ o → is_some (as_abstract o) ≡ true → is_path a ≡ true
+    abstract_path a (Some e) i h = name_found es at.declared fit.scope a e i
+    abstract_path a None i h = cc
+
+    -- .. and all its globals are read under it
+    pub whole_named : (s : Side) (a : Name) → is_some (abstract_of at.declared a) ≡ true → IsNamed es (whole_value s a)
+    whole_named s a h =
+        let p = abstract_path a (entry_of at.declared a) refl h in node_named es (Read (read_of.Program (Glob a) s)) [] (ty.Glob a) (p, p) p tt
+
+    abstract_name : (m : Mexp) → is_abstract at.declared m ≡ true → is_some (abstract_of at.declared (name_of m)) ≡ true
+    abstract_name (module_name a) e = e
+    abstract_name (Apply' n k args) e = cc
+
+    as_value_named : (m : Mexp × Side) (p : Place) (u : Term) → as_value at.declared m p ≡ given u → IsNamed es u
+    as_value_named m p u e =
+        let k = if_allowed (is_abstract at.declared m.0) (given (whole_value m.1 (name_of m.0))) Argument p u e in
+        subst (IsNamed es) (given_is (whole_value m.1 (name_of m.0)) u k.1) (whole_named m.1 (name_of m.0) (abstract_name m.0 k.0))
+
     module _ (bs : List Binding) (bound : AreNamedBindings bs) where
       -- a name without a side
       pub named_read : (x : Name) (p : Place) (u : Term) → named at bs x p ≡ given u → IsNamed es u
@@ -184,16 +209,16 @@ module _ (es : List Enumeration) where
       beside_read head.Number s x p u h = let i = given_bind (side_of (text_of s) p) (λ i. sided at bs x i p) u h in sided_read x i.0 p u i.2
       beside_read _ m x p u h = let k = if_allowed (has_memories at.language) (in_memory at bs x m p) Argument p u h in memory_read x m p u k.1
 
-      -- all globals of a module are given nowhere but in equations
-      pub none_alone : (o : Option Seen) (p : Place) (u : Term) → whole_alone at bs o p ≡ given u → ⊥
-      none_alone None p u e = cc
-      none_alone (Some w) p u e = let q = given_bind (whole_read at bs w) (λ _. refused Argument p) u e in not_given Argument p u q.2
+      -- all globals of a module that aren't compared
+      pub whole_alone_named : (o : Option Seen) (p : Place) (u : Term) → whole_alone at bs o p ≡ given u → IsNamed es u
+      whole_alone_named None p u e = cc
+      whole_alone_named (Some w) p u e = let r = given_bind (whole_read at bs w) (λ m. as_value at.declared m p) u e in as_value_named r.0 p u r.2
 
       -- a form with a side
       pub form_read : (k : Head) (x : Name) (ns : List Node) (p : Place) (s : Node) (u : Term) → read at bs k x ns p s ≡ given u → IsNamed es u
       form_read head.Name x ns p s u h = beside_read (head_of s) s x p u h
       form_read head.Path x ns p s u h = beside_read (head_of s) s (path ns) p u h
-      form_read head.Glob x ns p s u h = absurd (none_alone (bare_glob ns (Some s) p) p u h)
+      form_read head.Glob x ns p s u h = whole_alone_named (bare_glob ns (Some s) p) p u h
       form_read _ x ns p s u h = cc
 
     -- what a statement writes

@@ -8,6 +8,7 @@ mod ReadTrees
 mod Given
 mod Types
 mod FoundInForms
+mod Asked
 mod Interfaces
 mod NamedModules
 mod Spelled

@@ -8,6 +8,10 @@ use Rattle.gb_terms.specs.declared.decl.Proc.{Proc}
 use Rattle.gb_terms.specs.declared.decl.TypedName.{TypedName}
 use Rattle.gb_goal.specs.Interfaces.{Interface, Procedures, ProcedureType}
 use Rattle.gb_goal.specs.Scope.{Declarations}
+use Rattle.gb_goal.specs.declared.module_type.MayCall.{MayCall}
+use Rattle.gb_goal.specs.declared.module_type.MayCall.TheVariants.{Every, Those}
+use Rattle.gb_goal.specs.declared.module_type.ModuleType.{ModuleType}
+use Rattle.gb_goal.specs.declared.module_type.Oracle.{Oracle}
 use Rattle.gb_goal.specs.declared.module_type.Signature.{Signature}
 use Rattle.gb_goal.specs.declared.scope.Entry.{Entry}
 use Rattle.gb_goal.specs.declared.scope.Entry.TheVariants as entry
@@ -45,10 +49,25 @@ pub record IsNamedProcedureType (t : ProcedureType) : Type 0 where
   pub params : AllByRecursion IsNamedVariable t.params
   pub result : IsNamedType t.result
 
+-- a procedure of a module that is given for a parameter
+abbrev pub IsNamedOracle : Oracle → Type 0
+IsNamedOracle o = (is_name_text o.parameter ≡ true) × (is_name_text o.name ≡ true)
+
+-- those that a procedure may call, where they are listed
+abbrev pub AreNamedOracles : MayCall → Type 0
+AreNamedOracles Every = Unit {0}
+AreNamedOracles (Those os) = AllByRecursion IsNamedOracle os
+
 -- a procedure that a module type asks for
 pub record IsNamedSignature (s : Signature) : Type 0 where
   pub name : is_name_text s.name ≡ true
   pub typed : IsNamedProcedureType (record { params = s.params; result = s.result })
+  pub oracles : AreNamedOracles s.oracles
+
+-- a module type, with its parameters
+pub record IsNamedModuleType (t : ModuleType) : Type 0 where
+  pub params : AllByRecursion IsNamedParam t.params
+  pub signatures : AllByRecursion IsNamedSignature t.signatures
 
 -- the procedures of which a module is known from outside
 abbrev pub AreNamedTypes : Procedures ProcedureType → Type 0
@@ -68,7 +87,7 @@ IsNamedEntry es (entry.Module m) = IsNamedModule es m
 IsNamedEntry es (entry.Lemma q bs) = IsNamedStatement es q
 IsNamedEntry es (entry.Type t) = IsWrittenType 0 [] t × HasFirst es t
 IsNamedEntry es entry.AbstractType = Unit {0}
-IsNamedEntry es (entry.ModuleType t) = AllByRecursion IsNamedSignature t.signatures
+IsNamedEntry es (entry.ModuleType t) = IsNamedModuleType t
 IsNamedEntry es (entry.AbstractModule b) = IsNamedBind b
 IsNamedEntry es (entry.Constant c) = IsNamedType c.ty × (is_word_here es (out-Ty c.ty) c.number ≡ true)
 IsNamedEntry es (entry.Operator o) = AllByRecursion IsNamedType o.params × IsNamed es o.body

@@ -1,8 +1,9 @@
 -- What statements, and the procedures that they reach, read are the cells of the variables that they are found to read.
-use Rattle.std.proofs.Common.{◌≡◌, inl, inr, List, [], ◌∷◌, ◌++◌, Option, Some, None, refl, ap, sym, ◌∙◌, subst}
-use Rattle.std.proofs.lemmas.Option.{same_Some, none-some}
+use Rattle.std.proofs.Common.{◌≡◌, inl, inr, List, [], ◌∷◌, ◌++◌, Option, Some, None, refl, sym, ◌∙◌, subst}
+use Rattle.std.proofs.lemmas.Option.{same_Some}
 use Rattle.std.specs.List.{AllByRecursion}
 use Rattle.gb_core.specs.declared.ty.Ty.{Ty}
+use Rattle.gb_core.specs.declared.ty.Ty.TheVariants as ty
 use Rattle.gb_core.specs.declared.var.Var.{Var}
 use Rattle.gb_core.specs.declared.var.Var.TheVariants as var
 use Rattle.gb_terms.specs.declared.decl.Proc.{Proc}
@@ -24,10 +25,19 @@ use Rattle.gb_laws.specs.Cells.Key.{global, local}
 use Rattle.gb_laws.specs.Cells.{Key}
 use Rattle.gb_laws.specs.Reads.{leaf_cells, program_cells, routine_cells, row_cells, term_cells, terms_cells}
 use Rattle.gb_laws.proofs.Cells.{in_left, in_right}
-use Rattle.gb_laws.proofs.NearRuns.{InFrame, with_frame}
+use Rattle.gb_laws.proofs.NearRuns.{InFrame, with_frame, with_frame_covers}
 use Rattle.gb_goal.specs.Scope.{Declarations, procedure_of}
 use Rattle.gb_mods.specs.Called.{called_by, row_calls, calls}
+use Rattle.gb_mods.specs.Meant.{in_front, meant_by}
+use Rattle.gb_mods.specs.declared.meant.Meant.{Meant}
+use Rattle.gb_mods.specs.declared.meant.Meant.TheVariants.{Unknown, Declared, Any}
 use Rattle.gb_mods.proofs.Closed.{AreFollowed, IsIn}
+use Rattle.gb_adversaries.specs.AnyOf.{IfOneOf}
+use Rattle.gb_adversaries.specs.Carried.{EachCarried, EachCarriedBy}
+use Rattle.gb_adversaries.specs.Means.{IfDeclared, Means}
+use Rattle.gb_adversaries.proofs.Carried.{each_carried, each_procedure}
+use Rattle.gb_adversaries.proofs.Meanings.{if_declared}
+use Rattle.gb_adversaries.proofs.Reading.{reads_of_any}
 use Rattle.gb_typing.specs.Context.{Context, procedure}
 use Rattle.gb_typing.specs.Modules.{ProcedureType}
 use Rattle.gb_typing.specs.Programs.{AreArguments, AreStatements, EachStatement, IsCall, IsProcedure}
@@ -35,7 +45,7 @@ use Rattle.gb_typing.specs.Typing.{AreTyped, IsNamed, IsTyped, first, middle, la
 use Rattle.gb_laws.specs.Typing.{types_of}
 use Rattle.gb_reads.specs.Reads.{Vars}
 use Rattle.gb_trans.proofs.Within.{ReadsWithin}
-use Rattle.gb_sim.specs.Reads.{term_reads, row_reads, body_reads, list_reads, globals_among, head_reads, reads_by, with_reads, unless_local}
+use Rattle.gb_sim.specs.Reads.{term_reads, row_reads, body_reads, list_reads, globals_among, head_reads, reads_by, reads_itself, unless_local}
 use Rattle.gb_sim.proofs.Agreeing.{cells, cells_append}
 use mathlib.Core.Former.{Count}
 
@@ -90,17 +100,11 @@ module _ (g : Setting) (F : Cell → Type 0) where
 module _ (g : Setting) (S : List ProcRef) (F : Cell → Type 0) where
   -- a routine that stands for one of them reads within F, but for its frame
   abbrev pub IsGood : Routine → Type 0
-  IsGood r = (p : ProcRef) → IsIn S p → g.procedure p ≡ Some r → Covers (with_frame F) (routine_cells g r)
+  IsGood = IfOneOf g S (λ r. Covers (with_frame F) (routine_cells g r))
 
-  -- so does each that a program calls
+  -- so does each that a program carries
   abbrev pub CallsGood : Program → Type 0
-  CallsGood done = Unit {0}
-  CallsGood (assign xs e d) = CallsGood d
-  CallsGood (sample y e d) = CallsGood d
-  CallsGood (branch e a b d) = CallsGood a × CallsGood b × CallsGood d
-  CallsGood (loop e v a d) = CallsGood a × CallsGood d
-  CallsGood (call xs r es d) = IsGood r × CallsGood d
-  CallsGood (ask xs o es d) = CallsGood d
+  CallsGood = EachCarried IsGood
 
   abbrev pub AreThere : List ProcRef → Type 0
   AreThere ps = AllByRecursion (IsIn S) ps
@@ -116,7 +120,7 @@ module _ (g : Setting) (S : List ProcRef) (F : Cell → Type 0) where
   module _ (P : Cell → Type 0) (same : (l : Cells) → Covers (with_frame F) l → Covers (with_frame P) l) (c : Context) (ls : List TypedName) where
     call_within : (p : ProcRef) → IsIn S p → (xs : List Var) (o : Option Routine) (es : List Term) (d : Program) → g.procedure p ≡ o → Covers P (terms_cells g es) → CallsGood (called xs o es d) →
         (CallsGood d → ReadsWithin g P d) → ReadsWithin g P (called xs o es d)
-    call_within p i xs (Some r) es d e s h u = (s, same (routine_cells g r) (h.0 p i e), u h.1)
+    call_within p i xs (Some r) es d e s h u = (s, same (routine_cells g r) (h.0 p i e), u h.2)
     call_within p i xs None es d e s h u = u h
 
     pub row_within : {n : Count} (is : Row_of-Instr n) → AreStatements c ls is → Reads g P (body_reads is) → AreThere (row_calls is) → CallsGood (program_of g is) → ReadsWithin g P (program_of g is)
@@ -215,70 +219,57 @@ module _ (g : Setting) (F : Cell → Type 0) where
       let z = one_framed x.var x.ty (globals_among V) h in
       covers_both (with_frame F) (cells_of g.types x.var x.ty) (cells g.types V) z.0 (with_locals V z.1)
 
--- declared procedures are typed, and those of the setting, and S are procedures of the declarations, with all that they call
-module _ (g : Setting) (ds : Declarations) (c : Context) (typed : (p : ProcRef) (a : Proc) → procedure_of ds p ≡ Some a → IsProcedure c a)
-    (linked : (p : ProcRef) (a : Proc) → procedure_of ds p ≡ Some a → g.procedure p ≡ Some (routine a.params a.locals (statements g a.body.list) a.value))
-    (S : List ProcRef) (closed : AreFollowed ds S S) (R : Vars) (found : reads_by ds S ≡ Some R) (F : Cell → Type 0) (all : Reads g F R) where
-  -- one of them, and what it reads itself
-  pub record IsRead (p : ProcRef) : Type 0 where
-    pub proc : Proc
-    pub declared : procedure_of ds p ≡ Some proc
-    pub within : Reads g F (globals_among (list_reads proc.body.list ++ term_reads proc.value))
+module _ (g : Setting) (F : Cell → Type 0) where
+  -- it is known what is read, and F has its cells
+  abbrev AreRead : Option Vars → Type 0
+  AreRead None = ⊥
+  AreRead (Some V) = Reads g F V
 
-  pub each_read : (ps : List ProcRef) (V : Vars) → reads_by ds ps ≡ Some V → Reads g F V → (p : ProcRef) → IsIn ps p → IsRead p
-  each_read [] V e h p i = absurd i
-  each_read (q ∷ ps) V e h p i = by_parts (λ W d k j. each_read ps W d k p j) (procedure_of ds q) refl (reads_by ds ps) refl e i
+  read_front : (o r : Option Vars) → AreRead (in_front o r) → AreRead o × AreRead r
+  read_front None r h = absurd h
+  read_front (Some V) None h = absurd h
+  read_front (Some V) (Some W) h = parts g F V W h
+
+  -- what each of these procedures reads itself, where all that they read is known
+  each_itself : (ds : Declarations) (ps : List ProcRef) → AreRead (reads_by ds ps) → (p : ProcRef) → IsIn ps p → AreRead (reads_itself (meant_by ds p))
+  each_itself ds [] v p i = absurd i
+  each_itself ds (q ∷ ps) v p i = let z = read_front (reads_itself (meant_by ds q)) (reads_by ds ps) v in by_place z.0 (each_itself ds ps z.1 p) i
     where
-      by_parts : ((W : Vars) → reads_by ds ps ≡ Some W → Reads g F W → IsIn ps p → IsRead p) → (o : Option Proc) → procedure_of ds q ≡ o → (r : Option Vars) → reads_by ds ps ≡ r →
-          with_reads o r ≡ Some V → IsIn (q ∷ ps) p → IsRead p
-      by_parts behind None d r k e i = absurd (none-some V e)
-      by_parts behind (Some a) d None k e i = absurd (none-some V e)
-      by_parts behind (Some a) d (Some W) k e i = by_place i
-        where
-          own : Vars
-          own = globals_among (list_reads a.body.list ++ term_reads a.value)
+      by_place : AreRead (reads_itself (meant_by ds q)) → (IsIn ps p → AreRead (reads_itself (meant_by ds p))) → IsIn (q ∷ ps) p → AreRead (reads_itself (meant_by ds p))
+      by_place h behind (inl f) = subst (λ z. AreRead (reads_itself (meant_by ds z))) f h
+      by_place h behind (inr f) = behind f
 
-          halves : Reads g F own × Reads g F W
-          halves = parts g F own W (subst (Reads g F) (sym (same_Some (own ++ W) V e)) h)
+-- declared procedures are typed, references mean what they stand for, and S are procedures of the declarations, with all that they call
+module _ (g : Setting) (ds : Declarations) (c : Context) (typed : (p : ProcRef) (a : Proc) → procedure_of ds p ≡ Some a → IsProcedure c a) (means : (p : ProcRef) → Means g p (meant_by ds p))
+    (S : List ProcRef) (closed : AreFollowed ds S S) (R : Vars) (found : reads_by ds S ≡ Some R) (F : Cell → Type 0) (all : Reads g F R) where
+  again : (l : Cells) → Covers (with_frame F) l → Covers (with_frame (with_frame F)) l
+  again l h x i = by_place x.key (h x i)
+    where
+      by_place : (k : Key) → InFrame k (F x) → InFrame k (InFrame k (F x))
+      by_place (global p) f = f
+      by_place (local p) f = tt
 
-          by_place : IsIn (q ∷ ps) p → IsRead p
-          by_place (inl f) = record { proc = a; declared = ap (procedure_of ds) (sym f) ∙ d; within = halves.0 }
-          by_place (inr j) = behind W k halves.1 j
-
-  abbrev body_of : Routine → Program
-  body_of (routine ps ls d v) = d
-
-  from_body : (r : Routine) → CallsGood g S F (body_of r) → IsGood g S F r
-  from_body r k p i e =
-      let d = each_read S R found all p i in
-      let a = d.proc in
-      let is : routine a.params a.locals (statements g a.body.list) a.value ≡ r =
-      same_Some (routine a.params a.locals (statements g a.body.list) a.value) r (sym (linked p a d.declared) ∙ e) in
-      let both = parts g (with_frame F) (list_reads a.body.list) (term_reads a.value) (with_locals g F (list_reads a.body.list ++ term_reads a.value) d.within) in
-      let w = typed p a d.declared in
+  by_meaning : (r : Routine) → EachCarriedBy (IsGood g S F) r → (p : ProcRef) → g.procedure p ≡ Some r → (m : Meant) → IfDeclared (IsProcedure c) m → Means g p m → AreRead g F (reads_itself m) →
+      ((q : ProcRef) → IsIn (called_by m) q → IsIn S q) → Covers (with_frame F) (routine_cells g r)
+  by_meaning r k p e Unknown w is v h = absurd v
+  by_meaning r k p e (Declared a) w is v h =
+      let same : routine a.params a.locals (statements g a.body.list) a.value ≡ r = same_Some (routine a.params a.locals (statements g a.body.list) a.value) r (sym is ∙ e) in
+      let both = parts g (with_frame F) (list_reads a.body.list) (term_reads a.value) (with_locals g F (list_reads a.body.list ++ term_reads a.value) v) in
       let body : ReadsWithin g (with_frame F) (statements g a.body.list) =
-      statements_within g S F (with_frame F) (λ l h x i. again x (h x i)) c _ a.body.list w.body.statements both.0
-      (each_there g S F (calls a.body.list) (λ q j. closed p i q (subst (λ o. IsIn (called_by o) q) (sym d.declared) j))) (subst (λ z. CallsGood g S F (body_of z)) (sym is) k) in
-      subst (λ z. Covers (with_frame F) (routine_cells g z)) is
+      statements_within g S F (with_frame F) again c _ a.body.list w.body.statements both.0 (each_there g S F (calls a.body.list) h) (subst (EachCarriedBy (IsGood g S F)) (sym same) k) in
+      subst (λ z. Covers (with_frame F) (routine_cells g z)) same
       (covers_both (with_frame F) (term_cells g a.value) (program_cells g (statements g a.body.list)) (term_read g (with_frame F) _ a.value w.value.typed both.1)
       (within_covers g F (statements g a.body.list) body))
-    where
-      again : (x : Cell) → with_frame F x → with_frame (with_frame F) x
-      again x h = by_place x.key h
-        where
-          by_place : (k : Key) → InFrame k (F x) → InFrame k (InFrame k (F x))
-          by_place (global p) f = f
-          by_place (local p) f = tt
+  by_meaning r k p e (Any a qs) w is v h =
+      reads_of_any g a qs p is S h (with_frame F) (λ x t. tt)
+      (with_frame_covers F (cells_of g.types (var.Glob a) (ty.Glob a)) (λ d i. v d (in_left d (cells_of g.types (var.Glob a) (ty.Glob a)) [] i))) r e k
 
-  mutual
-    pub all_good : (d : Program) → CallsGood g S F d
-    all_good done = tt
-    all_good (assign xs e d) = all_good d
-    all_good (sample y e d) = all_good d
-    all_good (branch e a b d) = (all_good a, all_good b, all_good d)
-    all_good (loop e v a d) = (all_good a, all_good d)
-    all_good (call xs r es d) = (routine_good r, all_good d)
-    all_good (ask xs o es d) = all_good d
+  from_carried : (r : Routine) → EachCarriedBy (IsGood g S F) r → IsGood g S F r
+  from_carried r k p i e =
+      by_meaning r k p e (meant_by ds p) (if_declared ds p (IsProcedure c) (typed p)) (means p) (each_itself g F ds S (subst (AreRead g F) (sym found) all) p i) (closed p i)
 
-    pub routine_good : (r : Routine) → IsGood g S F r
-    routine_good (routine ps ls d v) = from_body (routine ps ls d v) (all_good d)
+  pub all_good : (d : Program) → CallsGood g S F d
+  all_good = each_carried (IsGood g S F) from_carried
+
+  pub routine_good : (r : Routine) → IsGood g S F r
+  routine_good = each_procedure (IsGood g S F) from_carried

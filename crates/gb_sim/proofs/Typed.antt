@@ -1,7 +1,7 @@
 -- The variables that statements need stand in the memories of both sides.
 use Rattle.std.proofs.Common.{◌≡◌, ℕ, zero, suc, Bool, true, false, ◌||◌, not, if◌then◌else◌, List, [], ◌∷◌, ◌++◌, Option, Some, None, refl, subst, get_or}
 use Rattle.std.proofs.lemmas.Bool.{false≢true}
-use Rattle.std.proofs.lemmas.Option.{same_Some, none-some}
+use Rattle.std.proofs.lemmas.Option.{same_Some}
 use Rattle.std.specs.List.{AllByRecursion}
 use Rattle.gb_core.specs.declared.ty.Ty.{Ty}
 use Rattle.gb_core.specs.declared.var.Var.{Var}
@@ -17,11 +17,16 @@ use Rattle.gb_terms.specs.declared.term.Head.TheVariants as head
 use Rattle.gb_terms.specs.declared.term.Head.TheVariants.{Assign, Sample, Call', If', While'}
 use Rattle.gb_terms.specs.declared.term.Instr.{Instr, Row_of-Instr, end_of-Instr, more_of-Instr}
 use Rattle.gb_terms.specs.declared.term.Term.{Term, Term', Row_of-Term, end_of-Term, more_of-Term, end_of-Head, more_of-Head}
-use Rattle.gb_walk.specs.Clash.{comes_before}
+use Rattle.gb_walk.specs.Clash.{Exclusions, comes_before}
 use Rattle.gb_meaning.specs.Commands.{terms_in}
+use Rattle.gb_meaning.specs.Names.{Name}
 use Rattle.gb_laws.specs.Plain.{IsPlain, AllPlain, HeadIsPlain}
 use Rattle.gb_goal.specs.Scope.{Declarations, procedure_of}
 use Rattle.gb_mods.specs.Called.{row_calls}
+use Rattle.gb_mods.specs.Meant.{in_front, meant_by}
+use Rattle.gb_mods.specs.declared.meant.Meant.{Meant}
+use Rattle.gb_mods.specs.declared.meant.Meant.TheVariants.{Unknown, Declared, Any}
+use Rattle.gb_adversaries.proofs.Meanings.{declared_there}
 use Rattle.gb_full.specs.Loss.{may_lose}
 use Rattle.gb_laws.specs.Typing.{Binder, IsRead, IsHead, types_of}
 use Rattle.gb_laws.specs.Typing.Binder.{value, index}
@@ -34,7 +39,7 @@ use Rattle.gb_reads.specs.declared.reads.TypedVar.{TypedVar}
 use Rattle.gb_reads.specs.Reads.{Vars}
 use Rattle.gb_premises.specs.Ordered.{is_same, joined, placed}
 use Rattle.gb_sim.specs.Need.{before, concern, is_among, need, row_need, statement_need, without, written_need}
-use Rattle.gb_sim.specs.Reads.{body_reads, globals_among, head_reads, list_reads, reached_reads, reads_by, row_reads, statement_reads, term_reads, unless_local, with_reads}
+use Rattle.gb_sim.specs.Reads.{body_reads, globals_among, head_reads, list_reads, reached_reads, reads_by, reads_itself, row_reads, statement_reads, term_reads, unless_local}
 use Rattle.gb_sim.proofs.Slices.{are_reached, both_known, known, mapped}
 use mathlib.Core.Former.{Count}
 
@@ -215,22 +220,35 @@ module _ (c : Context) (ks ls : List TypedName) where
       by_kind (var.Global m n) k r = (k, r)
       by_kind (var.Glob a) k r = (k, r)
 
-module _ (ds : Declarations) (c : Context) (typed : (p : ProcRef) (a : Proc) → procedure_of ds p ≡ Some a → IsProcedure c a) (ls : List TypedName) where
-  procedures_readable : (ps : List ProcRef) (V : Vars) → reads_by ds ps ≡ Some V → AreReadable c ls V
-  procedures_readable [] V e = subst (AreReadable c ls) (same_Some [] V e) tt
-  procedures_readable (p ∷ ps) V e = by_parts (λ W k. procedures_readable ps W k) (procedure_of ds p) refl (reads_by ds ps) refl e
+-- declared procedures are typed, and all globals of abstract modules may be read together
+module _ (ds : Declarations) (c : Context) (typed : (p : ProcRef) (a : Proc) → procedure_of ds p ≡ Some a → IsProcedure c a)
+    (together : (p : ProcRef) (a : Name) (qs : List ProcRef) → meant_by ds p ≡ Any a qs → c.has_globals a ≡ true) (ls : List TypedName) where
+  abbrev IfReadable : Option Vars → Type 0
+  IfReadable None = Unit {0}
+  IfReadable (Some V) = AreReadable c ls V
+
+  readable_front : (o r : Option Vars) → IfReadable o → IfReadable r → IfReadable (in_front o r)
+  readable_front None r h k = tt
+  readable_front (Some V) None h k = tt
+  readable_front (Some V) (Some W) h k = all_append (IsReadable c ls) V W h k
+
+  itself_readable : (p : ProcRef) → IfReadable (reads_itself (meant_by ds p))
+  itself_readable p = by_meaning (meant_by ds p) refl
     where
-      by_parts : ((W : Vars) → reads_by ds ps ≡ Some W → AreReadable c ls W) → (o : Option Proc) → procedure_of ds p ≡ o → (r : Option Vars) → reads_by ds ps ≡ r → with_reads o r ≡ Some V → AreReadable c ls V
-      by_parts go None d r k e = absurd (none-some V e)
-      by_parts go (Some a) d None k e = absurd (none-some V e)
-      by_parts go (Some a) d (Some W) k e =
-          let w = typed p a d in
-          let own = globals_among (list_reads a.body.list ++ term_reads a.value) in
-          subst (AreReadable c ls) (same_Some (own ++ W) V e)
-          (all_append (IsReadable c ls) own W
-          (globals_readable c (locals_of a) ls (list_reads a.body.list ++ term_reads a.value)
-          (all_append (IsReadable c (locals_of a)) (list_reads a.body.list) (term_reads a.value) (list_readable c (locals_of a) a.body.list w.body.statements) (expression_readable c (locals_of a) a.value w.value)))
-          (go W k))
+      by_meaning : (m : Meant) → meant_by ds p ≡ m → IfReadable (reads_itself m)
+      by_meaning Unknown e = tt
+      by_meaning (Declared a) e =
+          let w = typed p a (declared_there ds p a e) in
+          globals_readable c (locals_of a) ls (list_reads a.body.list ++ term_reads a.value)
+          (all_append (IsReadable c (locals_of a)) (list_reads a.body.list) (term_reads a.value) (list_readable c (locals_of a) a.body.list w.body.statements) (expression_readable c (locals_of a) a.value w.value))
+      by_meaning (Any a qs) e = (((tt, refl), (tt, together p a qs e, refl)), tt)
+
+  each_readable : (ps : List ProcRef) → IfReadable (reads_by ds ps)
+  each_readable [] = tt
+  each_readable (p ∷ ps) = readable_front (reads_itself (meant_by ds p)) (reads_by ds ps) (itself_readable p) (each_readable ps)
+
+  procedures_readable : (ps : List ProcRef) (V : Vars) → reads_by ds ps ≡ Some V → AreReadable c ls V
+  procedures_readable ps V e = subst IfReadable e (each_readable ps)
 
   reached_readable : (ps : List ProcRef) (V : Vars) → reached_reads ds ps ≡ Some V → AreReadable c ls V
   reached_readable ps V e = let r = are_reached ds ps V e in procedures_readable r.all V r.found
@@ -243,36 +261,36 @@ module _ (ds : Declarations) (c : Context) (typed : (p : ProcRef) (a : Proc) →
   written_readable false xs e w V h = h
 
   mutual
-    statement_need_readable : (i : Instr) → IsStatement c ls i → (V W : Vars) → statement_need ds i V ≡ Some W → R V → R W
-    statement_need_readable (Assign xs e) w V W k h =
-        subst R (same_Some (written_need (concern xs V) xs e V) W k) (written_readable (concern xs V) xs e w.0.expression V h)
-    statement_need_readable (Sample x d) w V W k h =
-        subst R (same_Some (written_need (may_lose ds d || concern (x ∷ []) V) (x ∷ []) d V) W k) (written_readable (may_lose ds d || concern (x ∷ []) V) (x ∷ []) d w.0 V h)
-    statement_need_readable (Call' xs p n es) w V W k h =
+    statement_need_readable : (ex : Exclusions) (i : Instr) → IsStatement c ls i → (V W : Vars) → statement_need ex ds i V ≡ Some W → R V → R W
+    statement_need_readable ex (Assign xs e) w V W k h =
+        subst R (same_Some (written_need (concern ex xs V) xs e V) W k) (written_readable (concern ex xs V) xs e w.0.expression V h)
+    statement_need_readable ex (Sample x d) w V W k h =
+        subst R (same_Some (written_need (may_lose ds d || concern ex (x ∷ []) V) (x ∷ []) d V) W k) (written_readable (may_lose ds d || concern ex (x ∷ []) V) (x ∷ []) d w.0 V h)
+    statement_need_readable ex (Call' xs p n es) w V W k h =
         let z = mapped (λ os. before xs (row_reads es ++ os) V) (reached_reads ds (p ∷ [])) W k in
         subst R z.is
         (all_joined (IsReadable c ls) (row_reads es ++ z.value) (without xs V)
         (all_append (IsReadable c ls) (row_reads es) z.value (call_readable c ls xs (procedure c p) es w) (reached_readable (p ∷ []) z.value z.is_known)) (all_without (IsReadable c ls) xs V h))
-    statement_need_readable (If' e m a n b) w V W k h =
-        let z = both_known (term_reads e) (row_need ds a V) (row_need ds b V) W k in
+    statement_need_readable ex (If' e m a n b) w V W k h =
+        let z = both_known (term_reads e) (row_need ex ds a V) (row_need ex ds b V) W k in
         subst R z.is
         (all_joined (IsReadable c ls) (term_reads e) (joined z.yes_need z.no_need) (expression_readable c ls e w.0.0)
-        (all_joined (IsReadable c ls) z.yes_need z.no_need (row_need_readable a w.1 V z.yes_need z.is_yes h) (row_need_readable b w.2 V z.no_need z.is_no h)))
-    statement_need_readable (While' e v n a) w V W k h =
+        (all_joined (IsReadable c ls) z.yes_need z.no_need (row_need_readable ex a w.1 V z.yes_need z.is_yes h) (row_need_readable ex b w.2 V z.no_need z.is_no h)))
+    statement_need_readable ex (While' e v n a) w V W k h =
         let own = term_reads e ++ (term_reads v ++ body_reads a) in
         let z = mapped (λ os. joined ((term_reads e ++ (term_reads v ++ body_reads a)) ++ os) V) (reached_reads ds (row_calls a)) W k in
         subst R z.is
         (all_joined (IsReadable c ls) (own ++ z.value) V
         (all_append (IsReadable c ls) own z.value (statement_readable c ls (While' e v n a) w) (reached_readable (row_calls a) z.value z.is_known)) h)
 
-    row_need_readable : {n : Count} (is : Row_of-Instr n) → AreStatements c ls is → (V W : Vars) → row_need ds is V ≡ Some W → R V → R W
-    row_need_readable end_of-Instr w V W k h = subst R (same_Some V W k) h
-    row_need_readable (more_of-Instr i is) w V W k h =
-        let z = known (λ U. statement_need ds i U) (row_need ds is V) W k in
-        statement_need_readable i w.0 z.value W z.leads (row_need_readable is w.1 V z.value z.is_known h)
+    row_need_readable : {n : Count} (ex : Exclusions) (is : Row_of-Instr n) → AreStatements c ls is → (V W : Vars) → row_need ex ds is V ≡ Some W → R V → R W
+    row_need_readable ex end_of-Instr w V W k h = subst R (same_Some V W k) h
+    row_need_readable ex (more_of-Instr i is) w V W k h =
+        let z = known (λ U. statement_need ex ds i U) (row_need ex ds is V) W k in
+        statement_need_readable ex i w.0 z.value W z.leads (row_need_readable ex is w.1 V z.value z.is_known h)
 
-  pub need_readable : (is : List Instr) → EachStatement c ls is → (V W : Vars) → need ds is V ≡ Some W → R V → R W
-  need_readable [] w V W k h = subst R (same_Some V W k) h
-  need_readable (i ∷ is) w V W k h =
-      let z = known (λ U. statement_need ds i U) (need ds is V) W k in
-      statement_need_readable i w.0 z.value W z.leads (need_readable is w.1 V z.value z.is_known h)
+  pub need_readable : (ex : Exclusions) (is : List Instr) → EachStatement c ls is → (V W : Vars) → need ex ds is V ≡ Some W → R V → R W
+  need_readable ex [] w V W k h = subst R (same_Some V W k) h
+  need_readable ex (i ∷ is) w V W k h =
+      let z = known (λ U. statement_need ex ds i U) (need ex ds is V) W k in
+      statement_need_readable ex i w.0 z.value W z.leads (need_readable ex is w.1 V z.value z.is_known h)

@@ -1,8 +1,10 @@
 -- What the same statement writes on both sides.
-use Rattle.std.proofs.Common.{◌≡◌, inl, inr, ◌⊎◌, Bool, true, false, ◌||◌, List, [], ◌∷◌, map, length, Some, refl, ap, sym, ◌∙◌, subst, pred}
+use Rattle.std.proofs.Common.{◌≡◌, ◌≢◌, inl, inr, ◌⊎◌, Bool, true, false, ◌||◌, List, [], ◌∷◌, map, length, Some, refl, ap, sym, ◌∙◌, subst, pred}
+use Rattle.std.specs.List.{list_any}
 use Rattle.std.proofs.lemmas.Bool.{false≢true, or_parts}
 use Rattle.std.proofs.lemmas.Option.{none-some}
 use Rattle.gb_core.specs.declared.ty.Ty.{Ty}
+use Rattle.gb_core.specs.declared.ty.Ty.TheVariants.{Bool as bool_ty}
 use Rattle.gb_core.specs.declared.value.Value.{Value}
 use Rattle.gb_core.specs.declared.var.Var.{Var}
 use Rattle.gb_core.specs.declared.var.Var.TheVariants as var
@@ -11,9 +13,9 @@ use Rattle.gb_terms.specs.declared.decl.TypedName.{TypedName}
 use Rattle.gb_terms.specs.declared.module.Mexp.TheVariants.{Name as named}
 use Rattle.gb_terms.specs.Equal.{var_eq}
 use Rattle.gb_terms.proofs.Equality.{var_eq-Decides}
-use Rattle.gb_walk.specs.Clash.{clashes}
+use Rattle.gb_walk.specs.Clash.{Exclusions, clashes}
 use Rattle.gb_meaning.specs.Memory.{Memory, assigned, write, write_each}
-use Rattle.gb_meaning.specs.Names.{Path}
+use Rattle.gb_meaning.specs.Names.{Name, Path}
 use Rattle.gb_meaning.specs.Setting.{Setting}
 use Rattle.gb_meaning.specs.State.{State}
 use Rattle.gb_meaning.specs.Values.{Global, Types, fit, has}
@@ -25,7 +27,11 @@ use Rattle.gb_laws.proofs.Kept.{assigned_keeps, kept_agrees, kept_self}
 use Rattle.gb_laws.proofs.Leaves.{assigned_left}
 use Rattle.gb_laws.specs.Operators.{parts_in}
 use Rattle.gb_laws.specs.Programs.{HaveTypes, Take, variable_type}
+use Rattle.gb_holds.specs.Footprints.{is_global}
 use Rattle.gb_typing.specs.Context.{Context, erased}
+use Rattle.gb_typing.specs.Forms.{IsKeptOff}
+use Rattle.gb_typing.proofs.ClashFree.{no_share, none_both}
+use Rattle.gb_typing.proofs.Globals.{none_of, same_global}
 use Rattle.gb_parts.proofs.Parts.{as_many, same_length}
 use Rattle.gb_reads.specs.declared.reads.TypedVar.{TypedVar}
 use Rattle.gb_reads.specs.Reads.{Vars}
@@ -129,38 +135,57 @@ all_global [] d i = absurd i
 all_global (f ∷ fs) d (inl e) = ap (λ z. is_local z.key) e
 all_global (f ∷ fs) d (inr i) = all_global fs d i
 
-module _ (t : Types) where
-  apart_cell : (x y : Var) (ty : Ty) → clashes x y ≡ false → (d : Cell) → In d (cells_of t y ty) → IsNone d.key (keys_of t x)
+cell_other : (x : Global) (fs : List Global) → list_any (is_global x) fs ≡ false → (d : Cell) → In d (map global_cell fs) → d.key ≢ key_of_global x
+cell_other x [] e d i = absurd i
+cell_other x (f ∷ fs) e d (inl i) = λ p. false≢true (sym (or_parts (is_global x f) (list_any (is_global x) fs) e).0 ∙ same_global x f (sym p ∙ ap (λ z. z.key) i))
+cell_other x (f ∷ fs) e d (inr i) = cell_other x fs (or_parts (is_global x f) (list_any (is_global x) fs) e).1 d i
+
+cells_other : (xs ys : List Global) → list_any (λ z. list_any (is_global z) xs) ys ≡ false → (d : Cell) → In d (map global_cell ys) → IsNone d.key (map key_of_global xs)
+cells_other xs [] e d i = absurd i
+cells_other xs (y ∷ ys) e d (inl i) =
+    subst (λ k. IsNone k (map key_of_global xs)) (sym (ap (λ z. z.key) i)) (none_of y xs (or_parts (list_any (is_global y) xs) (list_any (λ z. list_any (is_global z) xs) ys) e).0)
+cells_other xs (y ∷ ys) e d (inr i) = cells_other xs ys (or_parts (list_any (is_global y) xs) (list_any (λ z. list_any (is_global z) xs) ys) e).1 d i
+
+module _ (g : Setting) (ex : Exclusions) (off : IsKeptOff ex g) where
+  abbrev own : Name → List Global
+  own a = g.types.footprint (named a)
+
+  abbrev global_named : Name → Name → Global
+  global_named m x = record { parent = m; name = x; ty = bool_ty }
+
+  apart_cell : (x y : Var) (ty : Ty) → clashes ex x y ≡ false → (d : Cell) → In d (cells_of g.types y ty) → IsNone d.key (keys_of g.types x)
   apart_cell (var.Global m x) (var.Global n y) ty e d (inl i) =
       ((λ p. false≢true (sym e ∙ (var_eq-Decides (var.Global m x) (var.Global n y)).1 (ap as_var (sym p ∙ ap (λ z. z.key) i)))), tt)
   apart_cell (var.Global m x) (var.Local y) ty e d (inl i) = ((λ p. false≢true (ap is_local (sym p ∙ ap (λ z. z.key) i))), tt)
-  apart_cell (var.Global m x) (var.Glob b) ty e d i = cc
+  apart_cell (var.Global m x) (var.Glob b) ty e d i = (cell_other (global_named m x) (own b) (no_share g ex off (var.Global m x) (var.Glob b) e) d i, tt)
   apart_cell (var.Local x) (var.Global n y) ty e d (inl i) = ((λ p. false≢true (ap is_local (sym (ap (λ z. z.key) i) ∙ p))), tt)
   apart_cell (var.Local x) (var.Local y) ty e d (inl i) =
       ((λ p. false≢true (sym e ∙ (var_eq-Decides (var.Local x) (var.Local y)).1 (ap as_var (sym p ∙ ap (λ z. z.key) i)))), tt)
-  apart_cell (var.Local x) (var.Glob b) ty e d i = ((λ p. false≢true (sym (all_global (t.footprint (named b)) d i) ∙ ap is_local p)), tt)
-  apart_cell (var.Glob a) (var.Global n y) ty e d i = cc
-  apart_cell (var.Glob a) (var.Local y) ty e d (inl i) = subst (λ k. IsNone k (keys_of t (var.Glob a))) (sym (ap (λ z. z.key) i)) (local_none (y ∷ []) (t.footprint (named a)))
-  apart_cell (var.Glob a) (var.Glob b) ty e d i = cc
+  apart_cell (var.Local x) (var.Glob b) ty e d i = ((λ p. false≢true (sym (all_global (g.types.footprint (named b)) d i) ∙ ap is_local p)), tt)
+  apart_cell (var.Glob a) (var.Global n y) ty e d (inl i) =
+      subst (λ k. IsNone k (keys_of g.types (var.Glob a))) (sym (ap (λ z. z.key) i)) (none_of (global_named n y) (own a) (no_share g ex off (var.Glob a) (var.Global n y) e))
+  apart_cell (var.Glob a) (var.Global n y) ty e d (inr i) = absurd i
+  apart_cell (var.Glob a) (var.Local y) ty e d (inl i) = subst (λ k. IsNone k (keys_of g.types (var.Glob a))) (sym (ap (λ z. z.key) i)) (local_none (y ∷ []) (g.types.footprint (named a)))
+  apart_cell (var.Glob a) (var.Glob b) ty e d i = cells_other (own a) (own b) (none_both (own b) (own a) (no_share g ex off (var.Glob a) (var.Glob b) e)) d i
   apart_cell (var.Global m x) (var.Global n y) ty e d (inr i) = absurd i
   apart_cell (var.Global m x) (var.Local y) ty e d (inr i) = absurd i
   apart_cell (var.Local x) (var.Global n y) ty e d (inr i) = absurd i
   apart_cell (var.Local x) (var.Local y) ty e d (inr i) = absurd i
   apart_cell (var.Glob a) (var.Local y) ty e d (inr i) = absurd i
 
-  none_there : (x : Var) (V : Vars) → concerns x V ≡ false → (d : Cell) → In d (cells t V) → IsNone d.key (keys_of t x)
+  none_there : (x : Var) (V : Vars) → concerns ex x V ≡ false → (d : Cell) → In d (cells g.types V) → IsNone d.key (keys_of g.types x)
   none_there x [] e d i = absurd i
-  none_there x (y ∷ V) e d i = elim (in_either d (cells_of t y.var y.ty) (cells t V) i) [
-    | inl j ↦ apart_cell x y.var y.ty (or_parts (clashes x y.var) (concerns x V) e).0 d j
-    | inr j ↦ none_there x V (or_parts (clashes x y.var) (concerns x V) e).1 d j
+  none_there x (y ∷ V) e d i = elim (in_either d (cells_of g.types y.var y.ty) (cells g.types V) i) [
+    | inl j ↦ apart_cell x y.var y.ty (or_parts (clashes ex x y.var) (concerns ex x V) e).0 d j
+    | inr j ↦ none_there x V (or_parts (clashes ex x y.var) (concerns ex x V) e).1 d j
   ]
 
-  pub spared : (xs : List Var) (V : Vars) → concern xs V ≡ false → (d : Cell) → In d (cells t V) → Spares t xs d.key
+  pub spared : (xs : List Var) (V : Vars) → concern ex xs V ≡ false → (d : Cell) → In d (cells g.types V) → Spares g.types xs d.key
   spared [] V e d i = tt
-  spared (x ∷ xs) V e d i = let z = or_parts (concerns x V) (concern xs V) e in (none_there x V z.0 d i, spared xs V z.1 d i)
+  spared (x ∷ xs) V e d i = let z = or_parts (concerns ex x V) (concern ex xs V) e in (none_there x V z.0 d i, spared xs V z.1 d i)
 
   -- what is assigned doesn't matter
-  pub unwritten_agree : (xs : List Var) (V : Vars) → concern xs V ≡ false → (v w : Value) (m n : Memory) → AgreeOn t V m n → AgreeOn t V (assigned t m xs v) (assigned t n xs w)
+  pub unwritten_agree : (xs : List Var) (V : Vars) → concern ex xs V ≡ false → (v w : Value) (m n : Memory) → AgreeOn g.types V m n → AgreeOn g.types V (assigned g.types m xs v) (assigned g.types n xs w)
   unwritten_agree xs V e v w m n a d i =
       let k = spared xs V e d i in
-      ap (fit t d.ty) (assigned_left t d.key xs v k m) ∙ a d i ∙ sym (ap (fit t d.ty) (assigned_left t d.key xs w k n))
+      ap (fit g.types d.ty) (assigned_left g.types d.key xs v k m) ∙ a d i ∙ sym (ap (fit g.types d.ty) (assigned_left g.types d.key xs w k n))

@@ -8,7 +8,7 @@ use Rattle.gb_terms.specs.declared.term.Head.TheVariants.{Assign, Sample, Call',
 use Rattle.gb_terms.specs.declared.term.Instr.{Instr, Row_of-Instr, end_of-Instr, more_of-Instr}
 use Rattle.gb_terms.specs.declared.term.Term.{Term}
 use Rattle.gb_terms.specs.Equal.{var_eq}
-use Rattle.gb_walk.specs.Clash.{clashes}
+use Rattle.gb_walk.specs.Clash.{Exclusions, clashes}
 use Rattle.gb_goal.specs.Scope.{Declarations}
 use Rattle.gb_mods.specs.Called.{row_calls}
 use Rattle.gb_full.specs.Loss.{may_lose}
@@ -25,11 +25,11 @@ abbrev pub without : List Var → Vars → Vars
 without xs V = filter (λ y. not (is_among xs y)) V
 
 -- x is one of the variables, or clashes with one
-abbrev pub concerns : Var → Vars → Bool
-concerns x V = list_any (λ y. clashes x y.var) V
+abbrev pub concerns : Exclusions → Var → Vars → Bool
+concerns es x V = list_any (λ y. clashes es x y.var) V
 
-abbrev pub concern : List Var → Vars → Bool
-concern xs V = list_any (λ x. concerns x V) xs
+abbrev pub concern : Exclusions → List Var → Vars → Bool
+concern es xs V = list_any (λ x. concerns es x V) xs
 
 -- before what writes these variables and reads those
 abbrev pub before : List Var → Vars → Vars → Vars
@@ -58,18 +58,18 @@ of_branches rs _ _ = None
 -- Where the variables V are to be equal after a statement: what is assigned or sampled matters where it concerns V. A sampling that may
 -- lose weight matters always, and so does a call. A loop takes as many turns on both sides where all that it reads is equal.
 abbrev mutual
-  pub statement_need : Declarations → Instr → Vars → Option Vars
-  statement_need ds (Assign xs e) V = Some (written_need (concern xs V) xs e V)
-  statement_need ds (Sample x d) V = Some (written_need (may_lose ds d || concern (x ∷ []) V) (x ∷ []) d V)
-  statement_need ds (Call' xs p n es) V = called_need ds xs p (row_reads es) V
-  statement_need ds (If' e m a n b) V = of_branches (term_reads e) (row_need ds a V) (row_need ds b V)
-  statement_need ds (While' e v n a) V = loop_need ds (term_reads e ++ (term_reads v ++ body_reads a)) (row_calls a) V
+  pub statement_need : Exclusions → Declarations → Instr → Vars → Option Vars
+  statement_need es ds (Assign xs e) V = Some (written_need (concern es xs V) xs e V)
+  statement_need es ds (Sample x d) V = Some (written_need (may_lose ds d || concern es (x ∷ []) V) (x ∷ []) d V)
+  statement_need es ds (Call' xs p n args) V = called_need ds xs p (row_reads args) V
+  statement_need es ds (If' e m a n b) V = of_branches (term_reads e) (row_need es ds a V) (row_need es ds b V)
+  statement_need es ds (While' e v n a) V = loop_need ds (term_reads e ++ (term_reads v ++ body_reads a)) (row_calls a) V
 
-  pub row_need : {n : _} → Declarations → Row_of-Instr n → Vars → Option Vars
-  row_need ds end_of-Instr V = Some V
-  row_need ds (more_of-Instr i is) V = if_known (λ W. statement_need ds i W) (row_need ds is V)
+  pub row_need : {n : _} → Exclusions → Declarations → Row_of-Instr n → Vars → Option Vars
+  row_need es ds end_of-Instr V = Some V
+  row_need es ds (more_of-Instr i is) V = if_known (λ W. statement_need es ds i W) (row_need es ds is V)
 
 -- the same of lists
-abbrev pub need : Declarations → List Instr → Vars → Option Vars
-need ds [] V = Some V
-need ds (i ∷ is) V = if_known (λ W. statement_need ds i W) (need ds is V)
+abbrev pub need : Exclusions → Declarations → List Instr → Vars → Option Vars
+need es ds [] V = Some V
+need es ds (i ∷ is) V = if_known (λ W. statement_need es ds i W) (need es ds is V)

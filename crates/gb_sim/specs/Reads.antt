@@ -1,8 +1,9 @@
 -- What expressions, statements and procedures read, at the types at which they read it.
-use Rattle.std.specs.Prelude.{List, [], ◌∷◌, ◌++◌, Option, Some, None}
+use Rattle.std.specs.Prelude.{ℕ, List, [], ◌∷◌, ◌++◌, Option, Some, None}
 use Rattle.gb_core.specs.declared.ty.Ty.{Ty}
+use Rattle.gb_core.specs.declared.ty.Ty.TheVariants as ty
 use Rattle.gb_core.specs.declared.var.Var.{Var}
-use Rattle.gb_core.specs.declared.var.Var.TheVariants.{Local}
+use Rattle.gb_core.specs.declared.var.Var.TheVariants.{Local, Glob}
 use Rattle.gb_terms.specs.declared.decl.Proc.{Proc}
 use Rattle.gb_terms.specs.declared.module.ProcRef.{ProcRef}
 use Rattle.gb_terms.specs.declared.op.Read.TheVariants.{Program}
@@ -11,8 +12,11 @@ use Rattle.gb_terms.specs.declared.term.Head.{Head}
 use Rattle.gb_terms.specs.declared.term.Head.TheVariants as head
 use Rattle.gb_terms.specs.declared.term.Head.TheVariants.{Assign, Sample, Call', If', While'}
 use Rattle.gb_terms.specs.declared.term.Instr.{Instr, Row_of-Instr, end_of-Instr, more_of-Instr}
-use Rattle.gb_goal.specs.Scope.{Declarations, procedure_of}
+use Rattle.gb_goal.specs.Scope.{Declarations}
+use Rattle.gb_mods.specs.declared.meant.Meant.{Meant}
+use Rattle.gb_mods.specs.declared.meant.Meant.TheVariants.{Unknown, Declared, Any}
 use Rattle.gb_mods.specs.Called.{all_reached}
+use Rattle.gb_mods.specs.Meant.{in_front, meant_by}
 use Rattle.gb_reads.specs.Reads.{Vars}
 
 -- the variable that a head of this type reads itself
@@ -61,25 +65,30 @@ abbrev pub globals_among : Vars → Vars
 globals_among [] = []
 globals_among (x ∷ xs) = unless_local x.var (x ∷ globals_among xs) (globals_among xs)
 
--- the globals that a procedure reads itself
+-- the globals that a declared procedure reads itself
 abbrev pub procedure_reads : Proc → Vars
 procedure_reads f = globals_among (list_reads f.body.list ++ term_reads f.value)
 
--- .. in front of what others do, where it is declared
-abbrev pub with_reads : Option Proc → Option Vars → Option Vars
-with_reads (Some f) (Some xs) = Some (procedure_reads f ++ xs)
-with_reads _ _ = None
+-- all that is the own of the abstract module of this name, as one variable
+abbrev pub whole : List ℕ → Vars
+whole a = record { var = Glob a; ty = ty.Glob a } ∷ []
 
--- the globals that procedures read themselves, where each is declared
+-- what a procedure reads itself, where it is known what it stands for; one of an abstract module reads all that is the module's own
+abbrev pub reads_itself : Meant → Option Vars
+reads_itself Unknown = None
+reads_itself (Declared f) = Some (procedure_reads f)
+reads_itself (Any a qs) = Some (whole a)
+
+-- the globals that procedures read themselves, where it is known what each stands for
 abbrev pub reads_by : Declarations → List ProcRef → Option Vars
 reads_by ds [] = Some []
-reads_by ds (p ∷ ps) = with_reads (procedure_of ds p) (reads_by ds ps)
+reads_by ds (p ∷ ps) = in_front (reads_itself (meant_by ds p)) (reads_by ds ps)
 
 abbrev pub reads_if : Declarations → Option (List ProcRef) → Option Vars
 reads_if ds None = None
 reads_if ds (Some ps) = reads_by ds ps
 
--- The globals that procedures read, through every procedure that they call. They aren't known where one of these isn't declared by its
--- name.
+-- The globals that procedures read, through every procedure that they call. They aren't known where it isn't known what one of these
+-- stands for.
 unfoldable pub reached_reads : Declarations → List ProcRef → Option Vars
 reached_reads ds ps = reads_if ds (all_reached ds ps)

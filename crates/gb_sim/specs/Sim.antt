@@ -27,6 +27,7 @@ use Rattle.gb_reads.specs.declared.reads.TypedVar.{TypedVar}
 use Rattle.gb_reads.specs.Reads.{Vars}
 use Rattle.gb_premises.specs.Ordered.{is_same, joined}
 use Rattle.gb_sim.specs.Need.{if_known, need}
+use Rattle.gb_mods.specs.Exclusions.{exclusions}
 
 -- the variable that a head of this type reads in a memory
 abbrev pub read_in : Side → Head → Ty → Option TypedVar
@@ -89,7 +90,7 @@ by_need p (Some V) = given (ambient (every_pair (implies_form p (equal_on V))) �
 
 -- the goal of the same statements on both sides
 abbrev pub on_statements : Declarations → List Instr → Term → Term → Answer (List Goal)
-on_statements ds is p q = by_need p (if_known (λ V. need ds is V) (equal_in q))
+on_statements ds is p q = by_need p (if_known (λ V. need (exclusions ds) ds is V) (equal_in q))
 
 abbrev pub sim_row : Declarations → Row
 sim_row ds (equiv (body is) (body js) p q) = on_statements ds is p q

@@ -19,7 +19,7 @@ use gb_premises::ordered::{joined, shared_variable, with_variables};
 use gb_reads::reads::{TypedVar, TypedVars};
 use gb_terms::module::ProcRef;
 use gb_terms::term::{Instr, Term};
-use gb_walk::clash::clashes;
+use gb_walk::clash::{Excluded, clashes};
 use sqlite_items::Items;
 use std::alloc::{AllocError, Global};
 use std::slice::from_ref;
@@ -58,11 +58,11 @@ fn without(alloc: Global, targets: &[Var], list: &[TypedVar]) -> Result<TypedVar
 }
 
 /// Whether a variable is one of these, or clashes with one.
-fn concerns(target: &Var, list: &[TypedVar]) -> bool
-    ensures { result ≡ concerns target.now list.now }
+fn concerns(exclusions: &[Excluded], target: &Var, list: &[TypedVar]) -> bool
+    ensures { result ≡ concerns exclusions.now target.now list.now }
 {
     for variable in list {
-        if clashes(target, variable.var.get()) {
+        if clashes(exclusions, target, variable.var.get()) {
             return true;
         }
     }
@@ -70,11 +70,11 @@ fn concerns(target: &Var, list: &[TypedVar]) -> bool
 }
 
 /// Whether one of the targets is among the variables, or clashes with one.
-fn concern(targets: &[Var], list: &[TypedVar]) -> bool
-    ensures { result ≡ concern targets.now list.now }
+fn concern(exclusions: &[Excluded], targets: &[Var], list: &[TypedVar]) -> bool
+    ensures { result ≡ concern exclusions.now targets.now list.now }
 {
     for target in targets {
-        if concerns(target, list) {
+        if concerns(exclusions, target, list) {
             return true;
         }
     }
@@ -187,22 +187,23 @@ fn of_branches(
 fn statement_need(
     alloc: Global,
     statement: &Instr,
+    exclusions: &[Excluded],
     scope: &Scope,
     full: &[Name],
     after: &[TypedVar],
 ) -> Result<Option<TypedVars>, AllocError>
     requires { full.now ≡ full_operators scope.now }
-    ensures { IfOk result (λ made. made ≡ statement_need scope.now statement.now after.now) }
+    ensures { IfOk result (λ made. made ≡ statement_need exclusions.now scope.now statement.now after.now) }
 {
     match statement {
         Instr::Assign(targets, value) => {
             let targets = targets.as_slice();
-            let matters = concern(targets, after);
+            let matters = concern(exclusions, targets, after);
             Ok(Some(written_need(alloc, matters, targets, value, after)?))
         }
         Instr::Sample(target, from) => {
             let targets = from_ref(target);
-            let matters = may_lose(from, scope, full) || concern(targets, after);
+            let matters = may_lose(from, scope, full) || concern(exclusions, targets, after);
             Ok(Some(written_need(alloc, matters, targets, from, after)?))
         }
         Instr::Call(targets, procedure, args) => {
@@ -216,8 +217,8 @@ fn statement_need(
             )
         }
         Instr::If(test, yes, no) => {
-            let yes = need(alloc, yes.list.as_slice(), scope, full, after)?;
-            let no = need(alloc, no.list.as_slice(), scope, full, after)?;
+            let yes = need(alloc, yes.list.as_slice(), exclusions, scope, full, after)?;
+            let no = need(alloc, no.list.as_slice(), exclusions, scope, full, after)?;
             of_branches(alloc, test, yes, no)
         }
         Instr::While(test, variant, body) => {
@@ -228,22 +229,24 @@ fn statement_need(
     }
 }
 
-/// The same of statements one after another. None where a procedure that is called isn't declared by its name.
+/// The same of statements one after another. None where nothing is known of a procedure that is called.
 #[cycle(need)]
 pub fn need(
     alloc: Global,
     list: &[Instr],
+    exclusions: &[Excluded],
     scope: &Scope,
     full: &[Name],
     after: &[TypedVar],
 ) -> Result<Option<TypedVars>, AllocError>
     requires { full.now ≡ full_operators scope.now }
-    ensures { IfOk result (λ made. made ≡ need scope.now list.now after.now) }
+    ensures { IfOk result (λ made. made ≡ need exclusions.now scope.now list.now after.now) }
 {
     let mut known = with_variables(Items::new(alloc), after)?;
     for k in 0..list.len() {
         let at = list.len() - 1 - k;
-        let Some(earlier) = statement_need(alloc, &list[at], scope, full, known.as_slice())? else {
+        let after = known.as_slice();
+        let Some(earlier) = statement_need(alloc, &list[at], exclusions, scope, full, after)? else {
             return Ok(None);
         };
         known = earlier;

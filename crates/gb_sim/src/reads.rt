@@ -1,14 +1,16 @@
 //! What expressions, statements and procedures read, at the types at which they read it.
 
 ghost use Rattle.std.specs.Prelude.{◌≡◌, ◌++◌, IfOk};
-ghost use Rattle.gb_sim.specs.Reads.{each_reads, globals_among, head_reads, list_reads, procedure_reads, reached_reads, reads_by, statement_reads, term_reads};
+ghost use Rattle.gb_sim.specs.Reads.{each_reads, globals_among, head_reads, list_reads, procedure_reads, reached_reads, reads_by, reads_itself, statement_reads, term_reads, whole};
 
 use gb_core::Shared;
 use gb_core::copy::copy_var;
+use gb_core::name::Name;
 use gb_core::ty::Ty;
 use gb_core::var::Var;
 use gb_goal::scope::Scope;
 use gb_mods::called::{Procedures, all_reached};
+use gb_mods::meant::{Meant, meant_by};
 use gb_premises::ordered::{shared_variable, with_variables};
 use gb_reads::reads::{TypedVar, TypedVars};
 use gb_terms::decl::Proc;
@@ -111,7 +113,7 @@ fn globals_among(alloc: Global, list: &[TypedVar]) -> Result<TypedVars, AllocErr
     Ok(all)
 }
 
-/// The globals that a procedure reads itself.
+/// The globals that a declared procedure reads itself.
 fn procedure_reads(alloc: Global, procedure: &Proc) -> Result<TypedVars, AllocError>
     ensures { IfOk result (λ made. made ≡ procedure_reads procedure.now) }
 {
@@ -120,7 +122,31 @@ fn procedure_reads(alloc: Global, procedure: &Proc) -> Result<TypedVars, AllocEr
     globals_among(alloc, all.as_slice())
 }
 
-/// The globals that procedures read themselves. None where one isn't declared.
+/// All that is the own of the abstract module of this name, as one variable.
+fn whole(alloc: Global, module: &Name) -> Result<TypedVars, AllocError>
+    ensures { IfOk result (λ made. made ≡ whole «module».now) }
+{
+    let mut all = Items::new(alloc);
+    let ty = Shared::new(alloc, Ty::Glob(module.copy(alloc)?))?;
+    let module = module.copy(alloc)?;
+    let var = Shared::new(alloc, Var::Glob { module })?;
+    all.push(TypedVar { var, ty })?;
+    Ok(all)
+}
+
+/// The globals that a procedure reads itself; one of an abstract module reads all that is the module's own. None where it isn't known what
+/// it stands for.
+fn reads_itself(alloc: Global, meant: &Meant) -> Result<Option<TypedVars>, AllocError>
+    ensures { IfOk result (λ made. made ≡ reads_itself meant.now) }
+{
+    match meant {
+        Meant::Unknown => Ok(None),
+        Meant::Declared(procedure) => Ok(Some(procedure_reads(alloc, procedure.get())?)),
+        Meant::Any(module, _) => Ok(Some(whole(alloc, module)?)),
+    }
+}
+
+/// The globals that procedures read themselves. None where it isn't known what one stands for.
 fn reads_by(
     alloc: Global,
     scope: &Scope,
@@ -130,16 +156,17 @@ fn reads_by(
 {
     let mut all = Items::new(alloc);
     for x in list {
-        let Some(procedure) = scope.procedure(alloc, x.get())? else {
+        let meant = meant_by(alloc, scope, x.get())?;
+        let Some(own) = reads_itself(alloc, &meant)? else {
             return Ok(None);
         };
-        let own = procedure_reads(alloc, procedure.get())?;
         all = with_variables(all, own.as_slice())?;
     }
     Ok(Some(all))
 }
 
-/// The globals that procedures read, through every procedure that they call. None where one of these isn't declared.
+/// The globals that procedures read, through every procedure that they call. None where it isn't known what one of these
+/// stands for.
 #[tactic(auto, unfolding(crate::specs::Reads::reached_reads))]
 pub fn reached_reads(
     alloc: Global,

@@ -17,6 +17,7 @@ use gb_full::loss::full_operators;
 use gb_goal::goal::{Code, Goal, goal_of};
 use gb_goal::scope::Scope;
 use gb_goal::sequent::{Sequent, Sequents};
+use gb_mods::exclusions::exclusions;
 use gb_parts::forms::{every_pair, implied};
 use gb_parts::subgoals::{no_shape, one_goal, placed};
 use gb_premises::ordered::{is_same, joined};
@@ -196,7 +197,16 @@ fn on_statements(
         return Err(no_shape());
     };
     let full = full_operators(alloc, scope)?;
-    let Some(needed) = need(alloc, list, scope, full.as_slice(), equal.as_slice())? else {
+    let excluded = exclusions(alloc, scope)?;
+    let Some(needed) = need(
+        alloc,
+        list,
+        excluded.as_slice(),
+        scope,
+        full.as_slice(),
+        equal.as_slice(),
+    )?
+    else {
         return Err(no_shape());
     };
     Ok(by_need(alloc, goal, pre, needed.as_slice())?)
@@ -204,7 +214,7 @@ fn on_statements(
 
 /// The subgoal of `sim` on an equivalence of two bodies that are the same, of which the postcondition says of variables that they are
 /// equal: wherever the precondition holds, what decides them is equal. Refused with `Shape` at the place of the step at any other goal,
-/// and where a procedure that is called isn't declared by its name.
+/// and where nothing is known of a procedure that is called.
 pub fn apply(
     alloc: Global,
     place: Place,

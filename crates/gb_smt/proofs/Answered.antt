@@ -43,7 +43,7 @@ true_by true w f e = (refl, true_only w f e)
 true_by false w f e = absurd (false≢true e)
 
 module _ (ds : Declarations) where
-  closes_by : (c : Claim) (o : Option Labels) → most_of c ≡ o → is_true (trial_with ds o c).found ≡ true → Closes ds c
+  closes_by : (c : Claim) (o : Option Labels) → most_of ds c ≡ o → is_true (trial_with ds o c).found ≡ true → Closes ds c
   closes_by c None p e = absurd (false≢true e)
   closes_by c (Some most) p e =
       let width = width_of ds (labelled_claim most c) in
@@ -51,7 +51,7 @@ module _ (ds : Declarations) where
       record { most = most; counted = p; tried = q.0; each = (true_with ds most c).0 q.1 }
 
   closes_if : (c : Claim) → is_found_true ds c ≡ true → Closes ds c
-  closes_if c e = closes_by c (most_of c) refl e
+  closes_if c e = closes_by c (most_of ds c) refl e
 
   closes_only : (c : Claim) → Closes ds c → is_found_true ds c ≡ true
   closes_only c h =

@@ -72,13 +72,13 @@ module _ (ds : Declarations) where
   abbrev pub trial_at_width : Card → Labels → Claim → Trial
   trial_at_width width most c = if is_tried width then trial_at width (found_with ds most c) else record { width = width; found = Unknown }
 
-  -- a claim with a thing that holds the globals of a module in another way than labels allow is too wide
+  -- a claim without greatest numbers of labels is too wide
   abbrev pub trial_with : Option Labels → Claim → Trial
   trial_with (Some most) c = trial_at_width (width_of ds (labelled_claim most c)) most c
   trial_with None c = record { width = Above; found = Unknown }
 
   abbrev pub trial_of : Claim → Trial
-  trial_of c = trial_with (most_of c) c
+  trial_of c = trial_with (most_of ds c) c
 
   abbrev pub is_found_true : Claim → Bool
   is_found_true c = is_true (trial_of c).found
@@ -104,7 +104,7 @@ module _ (ds : Declarations) where
   -- choice of numbers of labels up to these.
   pub record Closes (c : Claim) : Type 0 where
     pub most : Labels
-    pub counted : most_of c ≡ Some most
+    pub counted : most_of ds c ≡ Some most
     pub tried : IsTrue (is_tried (width_of ds (labelled_claim most c)))
     pub each : IsTrueWith ds most c
 

@@ -9,6 +9,7 @@ use Rattle.gb_types.specs.Numbering.{parts_of}
 use Rattle.gb_types.specs.Types.{card_of, value_at}
 use Rattle.gb_terms.specs.declared.term.Term.{Term}
 use Rattle.gb_goal.specs.Scope.{Declarations}
+use Rattle.gb_mods.specs.Exclusions.{exclusions}
 use Rattle.gb_eval.specs.declared.env.ReadValue.{ReadValue}
 use Rattle.gb_eval.specs.Findings.{Comes, ◌>>=◌}
 use Rattle.gb_eval.specs.Findings.Comes.{found, unknown, overflow}
@@ -47,9 +48,9 @@ abbrev pub implied : Environment → List Term → Term → Comes Bool
 implied env [] t = eval.truth_at env t []
 implied env (h ∷ hs) t = eval.truth_at env h [] >>= λ a. if a then implied env hs t else found true
 
--- the environment of all operators of a script, and these values
+-- the environment of all operators of a script, these values, and what restrictions exclude
 abbrev pub environment_of : Declarations → List ReadValue → Environment
-environment_of ds reads = record { operators = operators_of ds; reads = reads }
+environment_of ds reads = record { operators = operators_of ds; reads = reads; exclusions = exclusions ds }
 
 module _ (ds : Declarations) where
   -- the truth of a claim where its variables have these values, if evaluation knows it

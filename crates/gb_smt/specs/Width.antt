@@ -11,6 +11,7 @@ use Rattle.gb_terms.specs.declared.term.Head.TheVariants as head
 use Rattle.gb_meaning.specs.Operators.{outcome_type}
 use Rattle.gb_laws.specs.Typing.{types_of}
 use Rattle.gb_goal.specs.Scope.{Declarations}
+use Rattle.gb_mods.specs.Exclusions.{exclusions}
 use Rattle.gb_meaning.specs.Names.{Name}
 use Rattle.gb_eval.specs.declared.script.Script.{Script}
 use Rattle.gb_eval.specs.Script.{opened}
@@ -78,6 +79,6 @@ module _ (ds : Declarations) where
   abbrev pub width_of : Claim → Card
   width_of c = if is_known_claim c then assignments_of c else Above
 
--- the greatest numbers of labels of a claim
-abbrev pub most_of : Claim → Option Labels
-most_of c = most_labels c.hyps c.conclusion
+  -- the greatest numbers of labels of a claim
+  abbrev pub most_of : Claim → Option Labels
+  most_of c = most_labels (exclusions ds) c.hyps c.conclusion

@@ -23,6 +23,7 @@ use gb_goal::sequent::{Sequent, Sequents};
 use gb_labels::labels::Label;
 use gb_labels::things::most_labels;
 use gb_members::counted::is_tried;
+use gb_mods::exclusions::exclusions;
 use gb_num::Overflow;
 use gb_terms::term::Term;
 use gb_variables::sizes::greater;
@@ -74,7 +75,13 @@ fn try_up_to(
 fn try_claim(alloc: Global, claim: &Claim, scope: &Scope) -> Result<Trial, AllocError>
     ensures { IfOk result (λ trial. trial ≡ trial_of scope.now claim.now) }
 {
-    match most_labels(alloc, claim.hyps.as_slice(), &claim.conclusion)? {
+    let excluded = exclusions(alloc, scope)?;
+    match most_labels(
+        alloc,
+        excluded.as_slice(),
+        claim.hyps.as_slice(),
+        &claim.conclusion,
+    )? {
         Some(most) => try_up_to(alloc, most.as_slice(), claim, scope),
         None => Ok(Trial {
             width: Card::Above,

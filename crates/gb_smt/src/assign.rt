@@ -8,6 +8,7 @@ ghost use Rattle.gb_types.specs.Types.{IsPlaceBelow, card_of, numbering, value_a
 ghost use Rattle.gb_eval.specs.Eval.{environment};
 ghost use Rattle.gb_labels.specs.Labels.{choice_at, choices, labelled_ty};
 ghost use Rattle.gb_labels.specs.Labelled.{labelled};
+ghost use Rattle.gb_mods.specs.Exclusions.{exclusions};
 ghost use Rattle.gb_smt.specs.Assign.{assignments, assignment, environment_of, with_values, implied, truth_at, found_under, found_of, found_with, labelled_claim};
 
 use crate::claims::Claim;
@@ -21,11 +22,13 @@ use gb_goal::scope::Scope;
 use gb_labels::labelled::{labelled, labelled_all};
 use gb_labels::labels::{Label, choice_at, choices};
 use gb_labels::types::labelled_part;
+use gb_mods::exclusions::exclusions;
 use gb_num::Overflow;
 use gb_terms::term::Term;
 use gb_types::nth::nth;
 use gb_types::size::size;
 use gb_variables::sizes::{number_of_values, size_of_variables};
+use gb_walk::clash::Excluded;
 use sqlite_items::Items;
 use std::alloc::{AllocError, Global};
 
@@ -97,18 +100,21 @@ fn implied(alloc: Global, env: &Env<'_>, hyps: &[Term], conclusion: &Term) -> Re
     truth(alloc, conclusion, env)
 }
 
-/// Whether the hypotheses of a claim imply its conclusion where its variables have values.
+/// Whether the hypotheses of a claim imply its conclusion where its variables have values, and restrictions exclude what is excluded.
 fn is_true_under(
     alloc: Global,
     claim: &Claim,
     reads: &[ReadValue],
     scope: &Scope,
+    excluded: &[Excluded],
 ) -> Result<bool, Stop>
+    requires { excluded.now ≡ exclusions scope.now }
     ensures { Finds (implied (environment_of scope.now reads.now) claim.now.hyps claim.now.conclusion) result }
 {
     let env = Env {
         script: script_of(scope),
         reads,
+        exclusions: excluded,
         labels: &[],
     };
     implied(alloc, &env, claim.hyps.as_slice(), &claim.conclusion)
@@ -134,14 +140,16 @@ fn found_at(
     at: u64,
     reads: &mut ReadValues,
     scope: &Scope,
+    excluded: &[Excluded],
 ) -> Result<Found, AllocError>
+    requires exclusions { excluded.now ≡ exclusions scope.now }
     requires below { IsPlaceBelow at (card_of (assignments claim.now)) }
     requires each { length reads.old ≡ length claim.now.variables }
     ensures found { IfOk result (λ found. found ≡ found_under (truth_at scope.now claim.now at) (assignment claim.now at)) }
     ensures each { OnOk result (length reads.new ≡ length claim.now.variables) }
 {
     assign(alloc, claim.variables.as_slice(), at, reads)?;
-    match is_true_under(alloc, claim, reads.as_slice(), scope) {
+    match is_true_under(alloc, claim, reads.as_slice(), scope, excluded) {
         Ok(true) => Ok(Found::True),
         Ok(false) => {
             let values = values_of(alloc, reads.as_slice())?;
@@ -162,9 +170,10 @@ fn try_all(alloc: Global, claim: &Claim, scope: &Scope) -> Result<Found, AllocEr
         Card::Exact(n) => n,
         Card::Above => return Ok(Found::Unknown),
     };
+    let excluded = exclusions(alloc, scope)?;
     let mut reads = unassigned(alloc, claim.variables.as_slice())?;
     for at in 0..count {
-        match found_at(alloc, claim, at, &mut reads, scope)? {
+        match found_at(alloc, claim, at, &mut reads, scope, excluded.as_slice())? {
             Found::True => {}
             decided => return Ok(decided),
         }

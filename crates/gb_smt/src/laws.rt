@@ -12,6 +12,8 @@ ghost use Rattle.gb_goal.specs.Scope.{Declarations};
 ghost use Rattle.gb_eval.specs.Findings.Comes.{found};
 ghost use Rattle.gb_eval.specs.Eval.{operators_of};
 ghost use Rattle.gb_eval.specs.Meant.{AreOperators};
+ghost use Rattle.gb_mods.specs.Exclusions.{exclusions};
+ghost use Rattle.gb_reads.specs.Memories.{AreKeptApart};
 ghost use Rattle.gb_smt.specs.declared.claims.Claim.{Claim};
 ghost use Rattle.gb_smt.specs.declared.leaves.Leaf.{Leaf};
 ghost use Rattle.gb_smt.specs.declared.assign.Found.{Found};
@@ -21,12 +23,12 @@ ghost use Rattle.gb_smt.specs.Apply.{Closes, outcome_of, IsAnswerOf};
 ghost use Rattle.gb_smt.specs.Meant.{AreTrue, HasValues, IsJudgedClaim};
 
 /// In each setting whose operators are those of the script, and in each state where the variables of a claim have the values of an
-/// assignment, and quantifiers over memories say what they say: if the claim is true under it and the hypotheses are true in the
+/// assignment, and quantifiers over memories say what they say, and variables that don't clash are kept apart: if the claim is true under it and the hypotheses are true in the
 /// state, so is the conclusion; if it is false under it, the hypotheses are true and the conclusion is false.
 pub fn claims_are_read_right()
-    ensures holds { (ds : Declarations) (g : Setting) → AreOperators g (operators_of ds) → (j : Speaks) (s : State) (c : Claim) (values : List Value) →
+    ensures holds { (ds : Declarations) (g : Setting) → AreOperators g (operators_of ds) → AreKeptApart (exclusions ds) g.types → (j : Speaks) (s : State) (c : Claim) (values : List Value) →
         HasValues g s c values → IsJudgedClaim g j c → truth_under ds c values ≡ found true → AreTrue g j s c.hyps → truth (val g j c.conclusion s) ≡ true }
-    ensures fails { (ds : Declarations) (g : Setting) → AreOperators g (operators_of ds) → (j : Speaks) (s : State) (c : Claim) (values : List Value) →
+    ensures fails { (ds : Declarations) (g : Setting) → AreOperators g (operators_of ds) → AreKeptApart (exclusions ds) g.types → (j : Speaks) (s : State) (c : Claim) (values : List Value) →
         HasValues g s c values → IsJudgedClaim g j c → truth_under ds c values ≡ found false → AreTrue g j s c.hyps × (truth (val g j c.conclusion s) ≡ false) }
 {}
 

@@ -24,6 +24,8 @@ use Rattle.gb_meaning.proofs.Numberings.{lawful}
 use Rattle.gb_eval.specs.Findings.Comes.{found}
 use Rattle.gb_goal.specs.Scope.{Declarations}
 use Rattle.gb_eval.specs.Known.{is_known, known_of}
+use Rattle.gb_mods.specs.Exclusions.{exclusions}
+use Rattle.gb_reads.specs.Memories.{AreKeptApart}
 use Rattle.gb_eval.specs.Eval.{operators_of}
 use Rattle.gb_eval.specs.Meant.{AreOperators}
 use Rattle.gb_smt.specs.declared.claims.Claim.{Claim}
@@ -74,7 +76,7 @@ known_if_tried ds c e = step (is_known_claim ds c) e
     step true e = refl
     step false e = absurd (false≢true e)
 
-module _ (ds : Declarations) (g : Setting) (ops : AreOperators g (operators_of ds)) (j : Speaks) (right : IsRight g j) (s : State) (W : Reading) (valid : IsReadingOf g W s) where
+module _ (ds : Declarations) (g : Setting) (ops : AreOperators g (operators_of ds)) (apart : AreKeptApart (exclusions ds) g.types) (j : Speaks) (right : IsRight g j) (s : State) (W : Reading) (valid : IsReadingOf g W s) where
   have_values : (vs : Vars) → AreRead W vs → all_true (map is_finite (map (λ v. v.ty) vs)) ≡ true → is_tuple (map numbering (map (λ v. v.ty) vs)) (values_of g s vs) ≡ true
   have_values [] a f = refl
   have_values (v ∷ vs) a f =
@@ -117,7 +119,7 @@ module _ (ds : Declarations) (g : Setting) (ops : AreOperators g (operators_of d
 
     pub claim_true : AreTrue g j s hs → truth (val g j t s) ≡ true
     claim_true a =
-        implied.conclusion_true g j s (environment_of ds (with_values vs (values_of g s vs))) ops hs t
+        implied.conclusion_true g j s (environment_of ds (with_values vs (values_of g s vs))) ops apart hs t
         (each_given g s W valid (known_of ds) vs reads hs known) (given g s W valid (known_of ds) vs reads t W (itself W) valid.0 k w) right true_there a
 
   all_known : (hs : List Term) → list_all (is_known (known_of ds)) hs ≡ true → AreAssumed g j W s hs → AreKnown (known_of ds) g W hs × AreTrue g j s hs

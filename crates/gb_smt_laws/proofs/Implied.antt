@@ -5,6 +5,7 @@ use Rattle.gb_meaning.specs.Setting.{Setting}
 use Rattle.gb_meaning.specs.Meanings.{truth}
 use Rattle.gb_meaning.specs.State.{State}
 use Rattle.gb_meaning.specs.Terms.{Speaks, val}
+use Rattle.gb_reads.specs.Memories.{AreKeptApart}
 use Rattle.gb_eval.specs.Findings.Comes.{found}
 use Rattle.gb_eval.specs.Eval.{Environment}
 use Rattle.gb_eval.specs.Meant.{AreGiven, AreOperators}
@@ -17,6 +18,6 @@ each_judged : (g : Setting) (j : Speaks) → IsRight g j → (ts : List Term) �
 each_judged g j right [] = tt
 each_judged g j right (t ∷ ts) = (right t, each_judged g j right ts)
 
-pub conclusion_true : (g : Setting) (j : Speaks) (s : State) (env : Environment) → AreOperators g env.operators → (hs : List Term) (t : Term) →
+pub conclusion_true : (g : Setting) (j : Speaks) (s : State) (env : Environment) → AreOperators g env.operators → AreKeptApart env.exclusions g.types → (hs : List Term) (t : Term) →
     EachGiven g s env.reads hs → AreGiven g s env.reads t → IsRight g j → implied env hs t ≡ found true → AreTrue g j s hs → truth (val g j t s) ≡ true
-conclusion_true g j s env ops hs t w v right e a = truth_sound g j s env t true ops v (right t) (holds g j s env ops hs t w (each_judged g j right hs) e a)
+conclusion_true g j s env ops apart hs t w v right e a = truth_sound g j s env t true ops apart v (right t) (holds g j s env ops apart hs t w (each_judged g j right hs) e a)

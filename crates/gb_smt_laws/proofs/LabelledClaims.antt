@@ -6,6 +6,8 @@ use Rattle.gb_meaning.specs.Meanings.{truth}
 use Rattle.gb_meaning.specs.State.{State}
 use Rattle.gb_meaning.specs.Terms.{Speaks}
 use Rattle.gb_goal.specs.Scope.{Declarations}
+use Rattle.gb_mods.specs.Exclusions.{exclusions}
+use Rattle.gb_reads.specs.Memories.{AreKeptApart}
 use Rattle.gb_eval.specs.Eval.{operators_of}
 use Rattle.gb_eval.specs.Meant.{AreOperators}
 use Rattle.gb_labels.specs.Labels.{Labels, choices, choice_at}
@@ -25,7 +27,7 @@ use Rattle.gb_smt_laws.proofs.LabelledVariables.{claim_labelled}
 use Rattle.gb_smt_laws.proofs.LabelledFits.{reading_at_labels, reading_labelled, labelled_fits}
 use Rattle.gb_smt_laws.proofs.LabelledKnown.{claim_known_with_same}
 
-module _ (ds : Declarations) (g : Setting) (ops : AreOperators g (operators_of ds)) (j : Speaks) (right : IsRight g j) (s : State) (W : Reading) (valid : IsReadingOf g W s) where
+module _ (ds : Declarations) (g : Setting) (ops : AreOperators g (operators_of ds)) (apart : AreKeptApart (exclusions ds) g.types) (j : Speaks) (right : IsRight g j) (s : State) (W : Reading) (valid : IsReadingOf g W s) where
   module _ (ls : Labels) (are : AreLabels g.types ls) where
     abbrev L : Reading
     L = reading_at_labels ls W
@@ -47,7 +49,7 @@ module _ (ds : Declarations) (g : Setting) (ops : AreOperators g (operators_of d
     pub labelled_claim_true : (hs : List Term) (t : Term) → is_known_claim ds (labelled_claim ls (claim_of hs t)) ≡ true → IsTrueEverywhere ds (labelled_claim ls (claim_of hs t)) → IsImplied g j W s hs t
     labelled_claim_true hs t k everywhere a f =
         let e = claim_labelled ls hs t in
-        let r = known_claim ds g ops j right s L (reading_labelled ls g are W s valid) (map (labelled ls) hs) (labelled ls t) (subst (λ c. is_known_claim ds c ≡ true) e k) (subst (IsTrueEverywhere ds) e everywhere)
+        let r = known_claim ds g ops apart j right s L (reading_labelled ls g are W s valid) (map (labelled ls) hs) (labelled ls t) (subst (λ c. is_known_claim ds c ≡ true) e k) (subst (IsTrueEverywhere ds) e everywhere)
         (assumed_with_labels hs a) (fits_with_labels t f) in
         let simple = sym (labelled_simple ls t) ∙ r.0 in
         (simple, sym (ap truth (labelled_means g ls are j right t simple s)) ∙ r.1)

@@ -67,7 +67,7 @@ module _ (f g : Name → Tys) where
 
 module _ (f g : Operators) where
   abbrev with_operators : Operators → Environment
-  with_operators ops = record { operators = ops; reads = [] }
+  with_operators ops = record { operators = ops; reads = []; exclusions = [] }
 
   total_at : (c : typed.Context) → Agree c f g → (h : Head) (us : List Ty) (ty : Ty) → IsHead c h us ty → (ks : List (Comes ℕ)) → head_total f h ty ks ≡ head_total g h ty ks
   total_at c a (head.User n) us ty w ks = ap (λ (o : Function). total_over ty o.total) (a n _ w)

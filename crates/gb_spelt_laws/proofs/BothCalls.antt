@@ -18,6 +18,7 @@ use Rattle.gb_goal.specs.Goal.Code.{body, procedure}
 use Rattle.gb_goal.specs.Goal.Goal.{hoare, phoare, equiv, ambient}
 use Rattle.gb_goal.specs.Rows.{Row, refusing, answered}
 use Rattle.gb_goal.specs.Scope.{Declarations}
+use Rattle.gb_mods.specs.Exclusions.{exclusions}
 use Rattle.gb_goal.specs.declared.sequent.Sequent.{Sequent}
 use Rattle.gb_typing.proofs.Given.{refused_at, refused_given, same_given}
 use Rattle.gb_prog.specs.AllValues.{in_memory, to_bound_values}
@@ -120,7 +121,7 @@ module _ (es : List Enumeration) where
           let V = with_types ds (left_of Right l s q) in
           let few = few_keeps l.call.targets _ Gs (few_keeps k.call.targets _ Gs e) in
           both_globals_keep k l p q Gs (f k refl) (g l refl) x y W V (λ U h. types_named ds globals (left_of Left k s q) U h) (λ U h. types_named ds globals (left_of Right l s q) U h)
-          (unless_keeps (clash_after_both k l s q) (by_both_globals k l s p q W V) Gs few)
+          (unless_keeps (clash_after_both (exclusions ds) k l s q) (by_both_globals k l s p q W V) Gs few)
       callees_keep p q Gs x y (Some k) None f g e = refused_given Shape Gs e
       callees_keep p q Gs x y None b f g e = refused_given Shape Gs e
 
@@ -148,7 +149,7 @@ module _ (es : List Enumeration) where
       side_callee_keeps o Gs a (Some k) f e =
           let W = with_types ds (left_of o.side k (on_side o.side s) o.post) in
           let spoken = speaking_keeps s _ Gs (few_keeps k.call.targets _ Gs e) in
-          let apart = unless_keeps (clash_after o.side k.call.targets k.written (on_side o.side s).post o.post) _ Gs spoken in
+          let apart = unless_keeps (clash_after (exclusions ds) o.side k.call.targets k.written (on_side o.side s).post o.post) _ Gs spoken in
           side_globals_keep o k Gs a (f k refl) W (λ U h. types_named ds globals (left_of o.side k (on_side o.side s) o.post) U h) (full_keeps (lost ds b k.call.procedure) (by_side_globals b s o k W) Gs apart)
 
       body_keeps : (Gs : List Goal) (o : OneBody) → of_body ds b s o ≡ given Gs → Around es o → AllOf es Gs

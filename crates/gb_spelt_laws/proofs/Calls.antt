@@ -11,6 +11,7 @@ use Rattle.gb_core.specs.declared.var.Var.TheVariants.{Global, Local, Glob}
 use Rattle.gb_terms.specs.declared.decl.Module.{Module}
 use Rattle.gb_terms.specs.declared.decl.Proc.{Proc}
 use Rattle.gb_terms.specs.declared.decl.TypedName.{TypedName}
+use Rattle.gb_terms.specs.declared.module.Bind.{Bind}
 use Rattle.gb_terms.specs.declared.op.Rel.{Rel}
 use Rattle.gb_terms.specs.declared.op.Rel.TheVariants.{AtLeast}
 use Rattle.gb_terms.specs.declared.op.Side.{Side}
@@ -29,7 +30,8 @@ use Rattle.gb_goal.specs.Goal.{Goal}
 use Rattle.gb_goal.specs.Goal.Code.{body, procedure}
 use Rattle.gb_goal.specs.Goal.Goal.{hoare, phoare, equiv, ambient}
 use Rattle.gb_goal.specs.Rows.{refusing}
-use Rattle.gb_goal.specs.Scope.{Declarations, module_of, procedure_of}
+use Rattle.gb_goal.specs.Scope.{Declarations, abstract_of, module_of, procedure_of}
+use Rattle.gb_mods.specs.Exclusions.{exclusions}
 use Rattle.gb_typing.proofs.Given.{refused_at, refused_given, same_given}
 use Rattle.gb_prog.specs.AllValues.{in_memory, to_bound_values}
 use Rattle.gb_prog.specs.Writes.{TypedVariable}
@@ -40,7 +42,7 @@ use Rattle.gb_mods.specs.Written.{written}
 use Rattle.gb_call.specs.Call.{Callee, outcome, before_call, call_goals, in_front, by_globals, chances_by_globals, left_of, if_few, callee, callee_of, of_callee, chances_of_callee, on_programs}
 use Rattle.gb_call.specs.LastCall.{LastCall, of_statement, behind, last_call}
 use Rattle.gb_call.specs.Outcomes.{put_for, of_arguments, Outcome, global_values, result_bound, reads_result, bound_of, of_outcome, left_side, of_return, after_where, after_call, clash_after}
-use Rattle.gb_call.specs.Written.{type_in, global_type, typed_before, with_types}
+use Rattle.gb_call.specs.Written.{glob_type, type_in, global_type, typed_before, with_types}
 use Rattle.gb_shapes.specs.declared.place.Enumeration.{Enumeration}
 use Rattle.gb_readback.specs.Written.{IsWrittenProcedure}
 use Rattle.gb_spelt_laws.specs.Named.{IsNamedType, IsNamed, IsNamedInstr, IsNamedGoal, IsNamedVariable}
@@ -70,10 +72,14 @@ module _ (ds : Declarations) (globals : AreNamedGlobals ds) where
   global_has (Global m x) = of (module_of ds m) refl
     where
       of : (o : Option Module) → module_of ds m ≡ o → Has (type_in o x)
-      of (Some k) e = typed_has k.globals (globals m k e) x
+      of (Some k) e = typed_has k.globals (globals.declared m k e) x
       of None e = tt
   global_has (Local x) = tt
-  global_has (Glob m) = tt
+  global_has (Glob m) = whole (abstract_of ds m) refl
+    where
+      whole : (o : Option Bind) → abstract_of ds m ≡ o → Has (glob_type m o)
+      whole (Some b) e = globals.together m b e
+      whole None e = tt
 
   before_of_types : (x : Var) (o : Option Ty) (r : Option (List TypedVariable)) (W : List TypedVariable) → Has o → ((V : List TypedVariable) → r ≡ Some V → AreOfTypes V) → typed_before x o r ≡ Some W → AreOfTypes W
   before_of_types x (Some t) (Some V) W h f e = subst AreOfTypes (same_Some _ W e) (h, f V refl)
@@ -122,7 +128,7 @@ module _ (es : List Enumeration) where
 
   module _ (ds : Declarations) (procedures : AreNamedProcedures es ds) where
     declared_named : (k : LastCall) → NamedCall k → (a : Option Proc) → procedure_of ds k.procedure ≡ a → (ws : Option (List Var)) → (c : Callee) → callee k a ws ≡ Some c → NamedCallee c
-    declared_named k m (Some a) h (Some ws) c e = subst NamedCallee (same_Some _ c e) (record { call = m; declared = procedures k.procedure m.procedure a h })
+    declared_named k m (Some a) h (Some ws) c e = subst NamedCallee (same_Some _ c e) (record { call = m; declared = procedures.declared k.procedure m.procedure a h })
     declared_named k m (Some a) h None c e = absurd (none-some c e)
     declared_named k m None h ws c e = absurd (none-some c e)
 
@@ -186,7 +192,7 @@ module _ (es : List Enumeration) where
     callee_keeps p q Gs x y None f e = refused_given Shape Gs e
     callee_keeps p q Gs x y (Some k) f e =
         globals_keep k p q Gs (f k refl) x y (with_types ds (left_of Own k s q)) (λ W h. types_named ds globals (left_of Own k s q) W h)
-        (unless_keeps (clash_after Own k.call.targets k.written s.post q) (by_globals k s p q (with_types ds (left_of Own k s q))) Gs (few_keeps k.call.targets _ Gs e))
+        (unless_keeps (clash_after (exclusions ds) Own k.call.targets k.written s.post q) (by_globals k s p q (with_types ds (left_of Own k s q))) Gs (few_keeps k.call.targets _ Gs e))
 
     front_keeps : (G : Goal) (a : Answer (List Goal)) (Gs : List Goal) → IsNamedGoal es G → ((Hs : List Goal) → a ≡ given Hs → AllOf es Hs) → in_front G a ≡ given Gs → AllOf es Gs
     front_keeps G (given Hs) Gs h f e = subst (AllOf es) (same_given (G ∷ Hs) Gs e) (h, f Hs refl)
@@ -204,7 +210,7 @@ module _ (es : List Enumeration) where
     chance_keeps r p q b Gs x y z None f e = refused_given Shape Gs e
     chance_keeps r p q b Gs x y z (Some k) f e =
         chances_keep k r p q b Gs (f k refl) x y z (with_types ds (left_of Own k s q)) (λ W h. types_named ds globals (left_of Own k s q) W h)
-        (unless_keeps (clash_after Own k.call.targets k.written s.post q) (chances_by_globals ds k s r p q b (with_types ds (left_of Own k s q))) Gs (few_keeps k.call.targets _ Gs e))
+        (unless_keeps (clash_after (exclusions ds) Own k.call.targets k.written s.post q) (chances_by_globals ds k s r p q b (with_types ds (left_of Own k s q))) Gs (few_keeps k.call.targets _ Gs e))
 
     pub one_keeps : AreNamedProcedures es ds → (a : Acts) → KeepsNames es (on_programs ds s a)
     one_keeps procedures on.All (hoare (body is) p q) h Gs e = callee_keeps p q Gs h.1 h.2 (callee_of ds (last_call is)) (λ k i. last_callee ds procedures is h.0 k i) e

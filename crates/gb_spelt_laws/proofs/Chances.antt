@@ -18,6 +18,7 @@ use Rattle.gb_goal.specs.Goal.{Code, Goal}
 use Rattle.gb_goal.specs.Goal.Code.{body, procedure}
 use Rattle.gb_goal.specs.Goal.Goal.{hoare, phoare, equiv, ambient}
 use Rattle.gb_goal.specs.Scope.{Declarations}
+use Rattle.gb_mods.specs.Exclusions.{exclusions}
 use Rattle.gb_typing.specs.Samplings.{Sampling, last_sampling}
 use Rattle.gb_typing.specs.Supports.{nearest}
 use Rattle.gb_typing.proofs.Given.{refused_given, same_given}
@@ -60,7 +61,7 @@ module _ (es : List Enumeration) where
   end_keeps ds r p q b Gs u v w None f e = refused_given Shape Gs e
   end_keeps ds r p q b Gs u v w (Some x) f e =
       let m = f x refl in
-      rest_keeps (first_loss ds x.before) r b (without_sampling x r p q b) Gs w (m.before, u, compared_named es r (measured x q) b (measured_named x q m v) w) (unless_keeps (clashing Own x.target q) _ Gs e)
+      rest_keeps (first_loss ds x.before) r b (without_sampling x r p q b) Gs w (m.before, u, compared_named es r (measured x q) b (measured_named x q m v) w) (unless_keeps (clashing (exclusions ds) Own x.target q) _ Gs e)
 
   rnd_keeps : (ds : Declarations) → KeepsNames es (rnd_row ds)
   rnd_keeps ds (phoare (body is) r p q b) h Gs e = end_keeps ds r p q b Gs h.1 h.2 h.3 (last_sampling is) (λ x i. last_named es is h.0 x i) e

@@ -270,7 +270,7 @@ module _ (es : List Enumeration) where
     asked_named p h f e = step (is_asked w p) e
       where
         step : (b : Bool) → (if b then unless_unproved (unproved_of ds p) (procedure_of ds p) else None) ≡ Some f → IsNamedProcedure es f
-        step true e = unproved_named (unproved_of ds p) (procedure_of ds p) (λ g i. procedures p h g i) f e
+        step true e = unproved_named (unproved_of ds p) (procedure_of ds p) (procedures.declared p h) f e
         step false e = absurd (none-some f e)
 
     once_keeps : (r : Side) (p q : Term) (is : List Instr) → EachNamed es is → Gives (once ds w r p q is)

@@ -20,6 +20,7 @@ use Rattle.gb_goal.specs.Goal.{Goal}
 use Rattle.gb_goal.specs.Goal.Code.{body, procedure}
 use Rattle.gb_goal.specs.Goal.Goal.{hoare, phoare, equiv, ambient}
 use Rattle.gb_goal.specs.Scope.{Declarations}
+use Rattle.gb_mods.specs.Exclusions.{exclusions}
 use Rattle.gb_typing.proofs.Given.{refused_given, same_given}
 use Rattle.gb_parts.specs.OneBody.{OneBody}
 use Rattle.gb_parts.specs.Assigned.{clashing}
@@ -94,7 +95,7 @@ module _ (es : List Enumeration) where
     written_keep : (b : Bool) (o : OneBody) (v : Term) (k : LastLoop) (Gs : List Goal) → Around es o → IsNamed es v → NamedLoop k → (U : Option (List Var)) → by_written ds b o v k U ≡ given Gs → AllOf es Gs
     written_keep b o v k Gs a x m None e = refused_given Shape Gs e
     written_keep b o v k Gs a x m (Some U) e =
-        let w = unless_keeps (clashing o.side U (at_end o.side v k o.post)) (kept_weight ds b k >>= λ _. given (loop_goals o v k U)) Gs e in
+        let w = unless_keeps (clashing (exclusions ds) o.side U (at_end o.side v k o.post)) (kept_weight ds b k >>= λ _. given (loop_goals o v k U)) Gs e in
         let g = given_bind (kept_weight ds b k) (λ _. given (loop_goals o v k U)) Gs w in
         subst (AllOf es) (same_given (loop_goals o v k U) Gs g.2) (goals_named o v k U a x m)
 
@@ -133,9 +134,9 @@ module _ (es : List Enumeration) where
         let types = have_append (read_in side.Left f T) (read_in side.Right f U) (read_in_has es side.Left f end T) (read_in_has es side.Right f end U) in
         ((m.body, n.body, turns, step), ((m.before, n.before, y, and_named es (in_step v k l) _ step (all_values_named es (read_both f T U) f types end)), tt))
 
-    both_written_keep : (v p q : Term) (k l : LastLoop) (Gs : List Goal) → IsNamed es v → IsNamed es p → IsNamed es q → NamedLoop k → NamedLoop l → (T U : Option (List Var)) → both_written v p q k l T U ≡ given Gs → AllOf es Gs
+    both_written_keep : (v p q : Term) (k l : LastLoop) (Gs : List Goal) → IsNamed es v → IsNamed es p → IsNamed es q → NamedLoop k → NamedLoop l → (T U : Option (List Var)) → both_written (exclusions ds) v p q k l T U ≡ given Gs → AllOf es Gs
     both_written_keep v p q k l Gs x y z m n (Some T) (Some U) e =
-        subst (AllOf es) (same_given (both_goals v p q k l T U) Gs (unless_keeps (clashing_both T U (at_both_ends v k l q)) _ Gs e)) (both_named v p q k l T U x y z m n)
+        subst (AllOf es) (same_given (both_goals v p q k l T U) Gs (unless_keeps (clashing_both (exclusions ds) T U (at_both_ends v k l q)) _ Gs e)) (both_named v p q k l T U x y z m n)
     both_written_keep v p q k l Gs x y z m n (Some T) None e = refused_given Shape Gs e
     both_written_keep v p q k l Gs x y z m n None U e = refused_given Shape Gs e
 

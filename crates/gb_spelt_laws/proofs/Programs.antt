@@ -24,6 +24,8 @@ use Rattle.gb_goal.specs.Goal.Code.{body, procedure}
 use Rattle.gb_goal.specs.Goal.Goal.{hoare, phoare, equiv, ambient}
 use Rattle.gb_goal.specs.Rows.{refusing}
 use Rattle.gb_goal.specs.Scope.{Declarations, procedure_of}
+use Rattle.gb_walk.specs.Clash.{Exclusions}
+use Rattle.gb_mods.specs.Exclusions.{exclusions}
 use Rattle.gb_steps.specs.declared.step.Acts.{Acts}
 use Rattle.gb_steps.specs.declared.step.Acts.TheVariants as on
 use Rattle.gb_steps.specs.declared.step.BodyRule.{BodyRule}
@@ -205,49 +207,49 @@ module _ (es : List Enumeration) where
   clash_named (Some v) f q x e = refused_given (SideCondition v) q e
 
   mutual
-    before_named : (r : Side) (i : Instr) (q f : Term) → IsNamedInstr es i → IsNamed es q → before r i q ≡ given f → IsNamed es f
-    before_named r (Assign xs e) q f x y k = clash_named (clashing r xs q) (assigned_form r xs e q) f (assigned_named es r xs e q x.1 y) k
-    before_named r (If' e m a n b) q f x y k =
-        let u = given_bind (before_row r a q) (λ s. before_row r b q >>= λ t. given (by_test (located r e) s t)) f k in
-        let v = given_bind (before_row r b q) (λ t. given (by_test (located r e) u.0 t)) f u.2 in
-        let s = row_named r a q u.0 x.1 y u.1 in
-        let t = row_named r b q v.0 x.2 y v.1 in
+    before_named : (ex : Exclusions) (r : Side) (i : Instr) (q f : Term) → IsNamedInstr es i → IsNamed es q → before ex r i q ≡ given f → IsNamed es f
+    before_named ex r (Assign xs e) q f x y k = clash_named (clashing ex r xs q) (assigned_form r xs e q) f (assigned_named es r xs e q x.1 y) k
+    before_named ex r (If' e m a n b) q f x y k =
+        let u = given_bind (before_row ex r a q) (λ s. before_row ex r b q >>= λ t. given (by_test (located r e) s t)) f k in
+        let v = given_bind (before_row ex r b q) (λ t. given (by_test (located r e) u.0 t)) f u.2 in
+        let s = row_named ex r a q u.0 x.1 y u.1 in
+        let t = row_named ex r b q v.0 x.2 y v.1 in
         let l = located_named es r e x.0 in
         subst (IsNamed es) (same_given _ f v.2) (and_named es _ _ (implies_named es _ _ l s) (implies_named es _ _ (not_named es _ l) t))
-    before_named r (Sample v d) q f x y k = refused_given Shape f k
-    before_named r (Call' xs p n ts) q f x y k = refused_given Shape f k
-    before_named r (While' e v n a) q f x y k = refused_given Shape f k
+    before_named ex r (Sample v d) q f x y k = refused_given Shape f k
+    before_named ex r (Call' xs p n ts) q f x y k = refused_given Shape f k
+    before_named ex r (While' e v n a) q f x y k = refused_given Shape f k
 
-    row_named : {n : Count} (r : Side) (is : Row_of-Instr n) (q f : Term) → AreNamedInstrs es is → IsNamed es q → before_row r is q ≡ given f → IsNamed es f
-    row_named r end_of-Instr q f x y k = subst (IsNamed es) (same_given q f k) y
-    row_named r (more_of-Instr i is) q f x y k =
-        let u = given_bind (before_row r is q) (before r i) f k in before_named r i u.0 f x.0 (row_named r is q u.0 x.1 y u.1) u.2
+    row_named : {n : Count} (ex : Exclusions) (r : Side) (is : Row_of-Instr n) (q f : Term) → AreNamedInstrs es is → IsNamed es q → before_row ex r is q ≡ given f → IsNamed es f
+    row_named ex r end_of-Instr q f x y k = subst (IsNamed es) (same_given q f k) y
+    row_named ex r (more_of-Instr i is) q f x y k =
+        let u = given_bind (before_row ex r is q) (before ex r i) f k in before_named ex r i u.0 f x.0 (row_named ex r is q u.0 x.1 y u.1) u.2
 
-  all_before_named : (r : Side) (is : List Instr) (q f : Term) → EachNamed es is → IsNamed es q → before_all r is q ≡ given f → IsNamed es f
-  all_before_named r [] q f x y k = subst (IsNamed es) (same_given q f k) y
-  all_before_named r (i ∷ is) q f x y k =
-      let u = given_bind (before_all r is q) (before r i) f k in before_named r i u.0 f x.0 (all_before_named r is q u.0 x.1 y u.1) u.2
+  all_before_named : (ex : Exclusions) (r : Side) (is : List Instr) (q f : Term) → EachNamed es is → IsNamed es q → before_all ex r is q ≡ given f → IsNamed es f
+  all_before_named ex r [] q f x y k = subst (IsNamed es) (same_given q f k) y
+  all_before_named ex r (i ∷ is) q f x y k =
+      let u = given_bind (before_all ex r is q) (before ex r i) f k in before_named ex r i u.0 f x.0 (all_before_named ex r is q u.0 x.1 y u.1) u.2
 
-  wp_keeps : (Gs : List Goal) (o : OneBody) → wp_one o ≡ given Gs → Around o → AllOf Gs
-  wp_keeps Gs o e k =
-      let z = given_bind (before_all o.side (ending o.list) o.post) _ Gs e in
+  wp_keeps : (ex : Exclusions) (Gs : List Goal) (o : OneBody) → wp_one ex o ≡ given Gs → Around o → AllOf Gs
+  wp_keeps ex Gs o e k =
+      let z = given_bind (before_all ex o.side (ending o.list) o.post) _ Gs e in
       subst AllOf (same_given _ Gs z.2)
-      (k.goal (front o.list) o.pre z.0 (take_named es (staying o.list) o.list k.list) k.pre (all_before_named o.side (ending o.list) o.post z.0 (drop_named es (staying o.list) o.list k.list) k.post z.1), tt)
+      (k.goal (front o.list) o.pre z.0 (take_named es (staying o.list) o.list k.list) k.pre (all_before_named ex o.side (ending o.list) o.post z.0 (drop_named es (staying o.list) o.list k.list) k.post z.1), tt)
 
-  wp_both_keeps : (a : Acts) (G : Goal) (Gs : List Goal) → wp_both a G ≡ given Gs → Leads Gs G
-  wp_both_keeps on.All (equiv (body is) (body js) p q) Gs e h =
-      let y = given_bind (before_all Left (ending is) q) _ Gs e in
-      let z = given_bind (before_all Right (ending js) y.0) _ Gs y.2 in
-      let l = all_before_named Left (ending is) q y.0 (drop_named es (staying is) is h.0) h.3 y.1 in
-      let r = all_before_named Right (ending js) y.0 z.0 (drop_named es (staying js) js h.1) l z.1 in
+  wp_both_keeps : (ex : Exclusions) (a : Acts) (G : Goal) (Gs : List Goal) → wp_both ex a G ≡ given Gs → Leads Gs G
+  wp_both_keeps ex on.All (equiv (body is) (body js) p q) Gs e h =
+      let y = given_bind (before_all ex Left (ending is) q) _ Gs e in
+      let z = given_bind (before_all ex Right (ending js) y.0) _ Gs y.2 in
+      let l = all_before_named ex Left (ending is) q y.0 (drop_named es (staying is) is h.0) h.3 y.1 in
+      let r = all_before_named ex Right (ending js) y.0 z.0 (drop_named es (staying js) js h.1) l z.1 in
       subst AllOf (same_given _ Gs z.2) ((take_named es (staying is) is h.0, take_named es (staying js) js h.1, h.2, r), tt)
-  wp_both_keeps on.All (equiv (procedure a) b p q) Gs e h = refused_given Shape Gs e
-  wp_both_keeps on.All (equiv (body is) (procedure b) p q) Gs e h = refused_given Shape Gs e
-  wp_both_keeps on.All (hoare a p q) Gs e h = refused_given Shape Gs e
-  wp_both_keeps on.All (phoare a r p q b) Gs e h = refused_given Shape Gs e
-  wp_both_keeps on.All (ambient f) Gs e h = refused_given Shape Gs e
-  wp_both_keeps on.Left G Gs e h = refused_given Shape Gs e
-  wp_both_keeps on.Right G Gs e h = refused_given Shape Gs e
+  wp_both_keeps ex on.All (equiv (procedure a) b p q) Gs e h = refused_given Shape Gs e
+  wp_both_keeps ex on.All (equiv (body is) (procedure b) p q) Gs e h = refused_given Shape Gs e
+  wp_both_keeps ex on.All (hoare a p q) Gs e h = refused_given Shape Gs e
+  wp_both_keeps ex on.All (phoare a r p q b) Gs e h = refused_given Shape Gs e
+  wp_both_keeps ex on.All (ambient f) Gs e h = refused_given Shape Gs e
+  wp_both_keeps ex on.Left G Gs e h = refused_given Shape Gs e
+  wp_both_keeps ex on.Right G Gs e h = refused_given Shape Gs e
 
   -- Other conditions.
 
@@ -287,17 +289,17 @@ module _ (es : List Enumeration) where
     hoare_keeps : (f : ProcRef) (p q : Term) (Gs : List Goal) (r : Option Proc) → procedure_of ds f ≡ r → proc.of_one p q r ≡ given Gs → Leads Gs (hoare (procedure f) p q)
     hoare_keeps f p q Gs None k e h = refused_given Shape Gs e
     hoare_keeps f p q Gs (Some a) k e h =
-        let n = procedures f h.0 a k in subst AllOf (same_given _ Gs e) ((n.body, h.1, changed_named es q (returned Own a ∷ []) (result_named Own a n, tt) h.2), tt)
+        let n = procedures.declared f h.0 a k in subst AllOf (same_given _ Gs e) ((n.body, h.1, changed_named es q (returned Own a ∷ []) (result_named Own a n, tt) h.2), tt)
 
     chance_keeps : (f : ProcRef) (o : Rel) (p q b : Term) (Gs : List Goal) (r : Option Proc) → procedure_of ds f ≡ r → proc.of_chance o p q b r ≡ given Gs → Leads Gs (phoare (procedure f) o p q b)
     chance_keeps f o p q b Gs None k e h = refused_given Shape Gs e
     chance_keeps f o p q b Gs (Some a) k e h =
-        let n = procedures f h.0 a k in subst AllOf (same_given _ Gs e) ((n.body, h.1, changed_named es q (returned Own a ∷ []) (result_named Own a n, tt) h.2, h.3), tt)
+        let n = procedures.declared f h.0 a k in subst AllOf (same_given _ Gs e) ((n.body, h.1, changed_named es q (returned Own a ∷ []) (result_named Own a n, tt) h.2, h.3), tt)
 
     equiv_keeps : (f g : ProcRef) (p q : Term) (Gs : List Goal) (x y : Option Proc) → procedure_of ds f ≡ x → procedure_of ds g ≡ y → proc.of_two p q (option_zip x y) ≡ given Gs → Leads Gs (equiv (procedure f) (procedure g) p q)
     equiv_keeps f g p q Gs (Some a) (Some b) i j e h =
-        let m = procedures f h.0 a i in
-        let n = procedures g h.1 b j in
+        let m = procedures.declared f h.0 a i in
+        let n = procedures.declared g h.1 b j in
         subst AllOf (same_given _ Gs e) ((m.body, n.body, h.2, changed_named es q (returned Left a ∷ returned Right b ∷ []) (result_named Left a m, (result_named Right b n, tt)) h.3), tt)
     equiv_keeps f g p q Gs None y i j e h = refused_given Shape Gs e
     equiv_keeps f g p q Gs (Some a) None i j e h = refused_given Shape Gs e
@@ -317,7 +319,7 @@ programs_keep es ds n rule.Proc x G h Gs e = proc_keeps es ds n G Gs e h
 programs_keep es ds n rule.Skip x G h Gs e = skip_keeps es G Gs e h
 programs_keep es ds n (rule.Seq k r) x G h Gs e = seq_keeps es k r x G Gs e h
 programs_keep es ds n (rule.If a) x G h Gs e = by_one es (λ o. of_one (λ is p. o.goal is p o.post) o.side o.pre (first_branch o.list)) (if_both a G) G Gs (if_keeps es Gs) (both_keeps es a G Gs) a e h
-programs_keep es ds n (rule.Wp a) x G h Gs e = by_one es wp_one (wp_both a G) G Gs (wp_keeps es Gs) (wp_both_keeps es a G Gs) a e h
+programs_keep es ds n (rule.Wp a) x G h Gs e = by_one es (wp_one (exclusions ds)) (wp_both (exclusions ds) a G) G Gs (wp_keeps es (exclusions ds) Gs) (wp_both_keeps es (exclusions ds) a G Gs) a e h
 programs_keep es ds n (rule.Case f) x G h Gs e =
     by_one es (case_one f) (on_one (case_one f) (one_body on.Left G) (refusing Shape)) G Gs (case_keeps es f x Gs) (by_one es (case_one f) (refusing Shape) G Gs (case_keeps es f x Gs) (λ e. refused_given Shape Gs e) on.Left) on.All e h
 programs_keep es ds n (rule.Conseq w) x G h Gs e = conseq_keeps es w x G Gs e h

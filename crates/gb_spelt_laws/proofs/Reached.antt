@@ -1,13 +1,16 @@
 -- What programs reach can be written: a procedure that a goal may speak of calls such procedures.
-use Rattle.std.proofs.Common.{◌≡◌, ℕ, zero, suc, ◌^◌, ◌==◌, Bool, true, false, if◌then◌else◌, List, [], ◌∷◌, ◌++◌, drop, length, Option, Some, None, refl, subst}
+use Rattle.std.proofs.Common.{◌≡◌, ℕ, zero, suc, ◌^◌, ◌==◌, Bool, true, false, if◌then◌else◌, List, [], ◌∷◌, ◌++◌, drop, length, Some, refl, subst}
 use Rattle.std.proofs.lemmas.Option.{same_Some, none-some}
 use Rattle.std.specs.List.{AllByRecursion}
-use Rattle.gb_terms.specs.declared.decl.Proc.{Proc}
 use Rattle.gb_terms.specs.declared.module.ProcRef.{ProcRef}
 use Rattle.gb_terms.specs.declared.term.Head.TheVariants.{Assign, Sample, Call', If', While'}
 use Rattle.gb_terms.specs.declared.term.Instr.{Instr, Row_of-Instr, end_of-Instr, more_of-Instr}
-use Rattle.gb_goal.specs.Scope.{Declarations, procedure_of}
+use Rattle.gb_goal.specs.Scope.{Declarations}
 use Rattle.gb_mods.specs.Called.{added, all_reached, called, called_by, calls, is_among, reached, row_calls, statement_calls}
+use Rattle.gb_mods.specs.Meant.{meant_by}
+use Rattle.gb_mods.specs.declared.meant.Meant.{Meant}
+use Rattle.gb_mods.specs.declared.meant.Meant.TheVariants.{Unknown, Declared, Any}
+use Rattle.gb_adversaries.proofs.Meanings.{declared_there}
 use Rattle.gb_shapes.specs.declared.place.Enumeration.{Enumeration}
 use Rattle.gb_readback.specs.Written.{IsWrittenProcedure}
 use Rattle.gb_spelt_laws.specs.Named.{IsNamedInstr, AreNamedInstrs}
@@ -68,11 +71,12 @@ module _ (es : List Enumeration) where
   module _ (ds : Declarations) (procedures : AreNamedProcedures es ds) where
     called_written : (ps : List ProcRef) → AreWritten ps → AreWritten (called ds ps)
     called_written [] h = tt
-    called_written (p ∷ ps) h = both_written (called_by (procedure_of ds p)) (called ds ps) (by (procedure_of ds p) refl) (called_written ps h.1)
+    called_written (p ∷ ps) h = both_written (called_by (meant_by ds p)) (called ds ps) (by (meant_by ds p) refl) (called_written ps h.1)
       where
-        by : (o : Option Proc) → procedure_of ds p ≡ o → AreWritten (called_by o)
-        by None e = tt
-        by (Some a) e = let n : IsNamedProcedure es a = procedures p h.0 a e in list_written a.body.list n.body
+        by : (m : Meant) → meant_by ds p ≡ m → AreWritten (called_by m)
+        by Unknown e = tt
+        by (Declared a) e = let n : IsNamedProcedure es a = procedures.declared p h.0 a (declared_there ds p a e) in list_written a.body.list n.body
+        by (Any a qs) e = let z = procedures.asked p h.0 a qs e in z.1
 
     pub all_written : (ps : List ProcRef) → AreWritten ps → (qs : List ProcRef) → all_reached ds ps ≡ Some qs → AreWritten qs
     all_written ps h qs e = reached_written (called ds) called_written (2 ^ 32) 0 ps h qs e

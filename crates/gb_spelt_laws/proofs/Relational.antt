@@ -22,6 +22,7 @@ use Rattle.gb_goal.specs.Goal.Goal.{hoare, phoare, equiv, ambient}
 use Rattle.gb_goal.specs.Rows.{refusing}
 use Rattle.gb_goal.specs.Answers.Answer.{given}
 use Rattle.gb_goal.specs.Scope.{Declarations}
+use Rattle.gb_mods.specs.Exclusions.{exclusions}
 use Rattle.gb_typing.specs.Forms.{and_form, implies_form, located, to_bound}
 use Rattle.gb_typing.specs.Samplings.{Sampling, last_sampling}
 use Rattle.gb_typing.specs.Supports.{nearest}
@@ -66,7 +67,7 @@ module _ (es : List Enumeration) where
     end_drawn Gs o k None f e = refused_given Shape Gs e
     end_drawn Gs o k (Some x) f e =
         let m = f x refl in
-        clash_keeps es (clashing o.side x.target o.post) (o.goal x.before o.pre (before_drawing ds o.side x o.post)) Gs (k.goal x.before o.pre _ m.before k.pre (before_named o.side x o.post m k.post)) e
+        clash_keeps es (clashing (exclusions ds) o.side x.target o.post) (o.goal x.before o.pre (before_drawing ds o.side x o.post)) Gs (k.goal x.before o.pre _ m.before k.pre (before_named o.side x o.post m k.post)) e
 
     body_drawn : (Gs : List Goal) (o : OneBody) → by_end ds o (last_sampling o.list) ≡ given Gs → Around es o → AllOf es Gs
     body_drawn Gs o e k = end_drawn Gs o k (last_sampling o.list) (λ x i. last_named es o.list k.list x i) e
@@ -114,7 +115,7 @@ module _ (es : List Enumeration) where
   transitivity_keeps t n (ambient f) k Gs e = refused_given Shape Gs e
 
   pub relational_keep : (ds : Declarations) (r : RelationalRule) → IsNamedRelational es r → KeepsNames es (rule_row ds (Relational r))
-  relational_keep ds (Rnd fs) n = rnd_keeps es fs n
+  relational_keep ds (Rnd fs) n = rnd_keeps es ds fs n
   relational_keep ds Symmetry n = symmetry_keeps es
   relational_keep ds (Drawn a) n = drawn_keeps ds a
   relational_keep ds (Transitivity t) n = transitivity_keeps t n

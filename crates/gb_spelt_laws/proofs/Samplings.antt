@@ -18,6 +18,9 @@ use Rattle.gb_terms.specs.declared.term.Head.TheVariants as head
 use Rattle.gb_terms.specs.declared.term.Head.TheVariants.{Assign, Sample, Call', If', While'}
 use Rattle.gb_terms.specs.declared.term.Instr.{Instr}
 use Rattle.gb_walk.specs.declared.change.Change.TheVariants.{ToTerm, OfBound}
+use Rattle.gb_goal.specs.Scope.{Declarations}
+use Rattle.gb_walk.specs.Clash.{Exclusions}
+use Rattle.gb_mods.specs.Exclusions.{exclusions}
 use Rattle.gb_goal.specs.Answers.Answer.{given}
 use Rattle.gb_goal.specs.Goal.{Goal}
 use Rattle.gb_goal.specs.Goal.Code.{body, procedure}
@@ -109,14 +112,14 @@ module _ (es : List Enumeration) where
       (and_named es _ _ (equal_named es _ _ (nearest_named c.right.ty rt) forth_back) (equal_named es _ _ (weight_named c.right.from _ r (nearest_named c.right.ty rt)) (weight_named c.left.from c.maps.back l m.back))))
       (for_support_named c.left.ty c.left.from _ lt l (and_named es _ q (and_named es _ _ (support_named c.maps.forth c.right.from m.forth r) (equal_named es _ _ (nearest_named c.left.ty lt) back_forth)) x))
 
-  maps_keep : (x y : Sampling) → NamedSampling x → NamedSampling y → (p q : Term) → IsNamed es p → IsNamed es q → (o : Option Maps) → ((ms : Maps) → o ≡ Some ms → NamedMaps ms) → (Gs : List Goal) → by_maps x y p q o ≡ given Gs →
+  maps_keep : (ex : Exclusions) (x y : Sampling) → NamedSampling x → NamedSampling y → (p q : Term) → IsNamed es p → IsNamed es q → (o : Option Maps) → ((ms : Maps) → o ≡ Some ms → NamedMaps ms) → (Gs : List Goal) → by_maps ex x y p q o ≡ given Gs →
       AllByRecursion (IsNamedGoal es) Gs
-  maps_keep x y m n p q u v None f Gs e = refused_given Shape Gs e
-  maps_keep x y m n p q u v (Some ms) f Gs e =
+  maps_keep ex x y m n p q u v None f Gs e = refused_given Shape Gs e
+  maps_keep ex x y m n p q u v (Some ms) f Gs e =
       let k = f ms refl in
       let post = coupled_named (coupling x y ms) (with_values x y ms q) m.ty n.ty (located_named es Left x.from m.from) (located_named es Right y.from n.from) k
       (changed_named es q (ToTerm (Program x.target Left) (nearest x.ty) ∷ ToTerm (Program y.target Right) ms.forth ∷ []) (nearest_named x.ty m.ty, (k.forth, tt)) v) in
-      clash_keeps (clash_of x y q) (without_samplings x y ms p q) Gs (m.before, n.before, u, post) e
+      clash_keeps (clash_of ex x y q) (without_samplings x y ms p q) Gs (m.before, n.before, u, post) e
 
   identity_named : (a b : Ty) → IsNamedType a → IsNamedType b → (t : Bool) (ms : Maps) → (if t then Some (record { forth = nearest a; back = nearest b }) else None) ≡ Some ms → NamedMaps ms
   identity_named a b h k true ms e = subst NamedMaps (same_Some _ ms e) (record { forth = nearest_named a h; back = nearest_named b k })
@@ -128,35 +131,35 @@ module _ (es : List Enumeration) where
   functions_named (f ∷ g ∷ []) n a b h k ms e = subst NamedMaps (same_Some _ ms e) (record { forth = n.0; back = n.1.0 })
   functions_named (f ∷ g ∷ j ∷ fs) n a b h k ms e = absurd (none-some ms e)
 
-  ends_keep : (fs : List Term) → AllNamed es fs → (p q : Term) → IsNamed es p → IsNamed es q → (o r : Option Sampling) → ((x : Sampling) → o ≡ Some x → NamedSampling x) → ((x : Sampling) → r ≡ Some x → NamedSampling x) →
-      (Gs : List Goal) → by_ends fs p q (option_zip o r) ≡ given Gs → AllByRecursion (IsNamedGoal es) Gs
-  ends_keep fs n p q u v None r f g Gs e = refused_given Shape Gs e
-  ends_keep fs n p q u v (Some x) None f g Gs e = refused_given Shape Gs e
-  ends_keep fs n p q u v (Some x) (Some y) f g Gs e =
+  ends_keep : (ex : Exclusions) (fs : List Term) → AllNamed es fs → (p q : Term) → IsNamed es p → IsNamed es q → (o r : Option Sampling) → ((x : Sampling) → o ≡ Some x → NamedSampling x) → ((x : Sampling) → r ≡ Some x → NamedSampling x) →
+      (Gs : List Goal) → by_ends ex fs p q (option_zip o r) ≡ given Gs → AllByRecursion (IsNamedGoal es) Gs
+  ends_keep ex fs n p q u v None r f g Gs e = refused_given Shape Gs e
+  ends_keep ex fs n p q u v (Some x) None f g Gs e = refused_given Shape Gs e
+  ends_keep ex fs n p q u v (Some x) (Some y) f g Gs e =
       let m = f x refl in
       let k = g y refl in
-      maps_keep x y m k p q u v (maps fs x.ty y.ty) (λ ms i. functions_named fs n x.ty y.ty m.ty k.ty ms i) Gs e
+      maps_keep ex x y m k p q u v (maps fs x.ty y.ty) (λ ms i. functions_named fs n x.ty y.ty m.ty k.ty ms i) Gs e
 
-  end_keeps : (p q : Term) → IsNamed es p → IsNamed es q → (o : Option Sampling) → ((x : Sampling) → o ≡ Some x → NamedSampling x) → (Gs : List Goal) → one.by_end p q o ≡ given Gs → AllByRecursion (IsNamedGoal es) Gs
-  end_keeps p q u v None f Gs e = refused_given Shape Gs e
-  end_keeps p q u v (Some x) f Gs e =
+  end_keeps : (ex : Exclusions) (p q : Term) → IsNamed es p → IsNamed es q → (o : Option Sampling) → ((x : Sampling) → o ≡ Some x → NamedSampling x) → (Gs : List Goal) → one.by_end ex p q o ≡ given Gs → AllByRecursion (IsNamedGoal es) Gs
+  end_keeps ex p q u v None f Gs e = refused_given Shape Gs e
+  end_keeps ex p q u v (Some x) f Gs e =
       let m = f x refl in
       let post = for_support_named x.ty x.from (with_value x q) m.ty m.from (changed_named es q (ToTerm (Program x.target Own) (nearest x.ty) ∷ []) (nearest_named x.ty m.ty, tt) v) in
-      clash_keeps (one.clashing Own x.target q) (one.without_sampling x p q) Gs (m.before, u, post) e
+      clash_keeps (one.clashing ex Own x.target q) (one.without_sampling x p q) Gs (m.before, u, post) e
 
-  pub rnd_keeps : (fs : List Term) → AllNamed es fs → KeepsNames es (rnd_row fs)
-  rnd_keeps fs n (equiv (body is) (body js) p q) h Gs e = ends_keep fs n p q h.2 h.3 (last_sampling is) (last_sampling js) (λ x k. last_named is h.0 x k) (λ x k. last_named js h.1 x k) Gs e
-  rnd_keeps [] n (hoare (body is) p q) h Gs e = end_keeps p q h.1 h.2 (last_sampling is) (λ x k. last_named is h.0 x k) Gs e
-  rnd_keeps (f ∷ fs) n (hoare a p q) h Gs e = refused_given Shape Gs e
-  rnd_keeps [] n (hoare (procedure a) p q) h Gs e = refused_given Shape Gs e
-  rnd_keeps [] n (phoare a r p q b) h Gs e = refused_given Shape Gs e
-  rnd_keeps (f ∷ fs) n (phoare a r p q b) h Gs e = refused_given Shape Gs e
-  rnd_keeps [] n (equiv (procedure a) b p q) h Gs e = refused_given Shape Gs e
-  rnd_keeps (f ∷ fs) n (equiv (procedure a) b p q) h Gs e = refused_given Shape Gs e
-  rnd_keeps [] n (equiv (body is) (procedure b) p q) h Gs e = refused_given Shape Gs e
-  rnd_keeps (f ∷ fs) n (equiv (body is) (procedure b) p q) h Gs e = refused_given Shape Gs e
-  rnd_keeps [] n (ambient f) h Gs e = refused_given Shape Gs e
-  rnd_keeps (g ∷ fs) n (ambient f) h Gs e = refused_given Shape Gs e
+  pub rnd_keeps : (ds : Declarations) (fs : List Term) → AllNamed es fs → KeepsNames es (rnd_row ds fs)
+  rnd_keeps ds fs n (equiv (body is) (body js) p q) h Gs e = ends_keep (exclusions ds) fs n p q h.2 h.3 (last_sampling is) (last_sampling js) (λ x k. last_named is h.0 x k) (λ x k. last_named js h.1 x k) Gs e
+  rnd_keeps ds [] n (hoare (body is) p q) h Gs e = end_keeps (exclusions ds) p q h.1 h.2 (last_sampling is) (λ x k. last_named is h.0 x k) Gs e
+  rnd_keeps ds (f ∷ fs) n (hoare a p q) h Gs e = refused_given Shape Gs e
+  rnd_keeps ds [] n (hoare (procedure a) p q) h Gs e = refused_given Shape Gs e
+  rnd_keeps ds [] n (phoare a r p q b) h Gs e = refused_given Shape Gs e
+  rnd_keeps ds (f ∷ fs) n (phoare a r p q b) h Gs e = refused_given Shape Gs e
+  rnd_keeps ds [] n (equiv (procedure a) b p q) h Gs e = refused_given Shape Gs e
+  rnd_keeps ds (f ∷ fs) n (equiv (procedure a) b p q) h Gs e = refused_given Shape Gs e
+  rnd_keeps ds [] n (equiv (body is) (procedure b) p q) h Gs e = refused_given Shape Gs e
+  rnd_keeps ds (f ∷ fs) n (equiv (body is) (procedure b) p q) h Gs e = refused_given Shape Gs e
+  rnd_keeps ds [] n (ambient f) h Gs e = refused_given Shape Gs e
+  rnd_keeps ds (g ∷ fs) n (ambient f) h Gs e = refused_given Shape Gs e
 
   exchanged_named : (f : Term) → IsNamed es f → IsNamed es (exchanged f)
   exchanged_named f x = changed_named es f exchanging (tt, (tt, tt)) x

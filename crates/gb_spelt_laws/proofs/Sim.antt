@@ -26,20 +26,25 @@ use Rattle.gb_goal.specs.Answers.Answer.{given}
 use Rattle.gb_goal.specs.Goal.{Goal}
 use Rattle.gb_goal.specs.Goal.Code.{body, procedure}
 use Rattle.gb_goal.specs.Goal.Goal.{hoare, phoare, equiv, ambient}
-use Rattle.gb_goal.specs.Scope.{Declarations, procedure_of}
+use Rattle.gb_goal.specs.Scope.{Declarations}
+use Rattle.gb_mods.specs.Exclusions.{exclusions}
 use Rattle.gb_goal.specs.declared.sequent.Sequent.{Sequent}
 use Rattle.gb_typing.specs.Forms.{and_form}
 use Rattle.gb_typing.proofs.Given.{refused_at, refused_given, same_given}
 use Rattle.gb_full.specs.Loss.{may_lose}
 use Rattle.gb_mods.specs.Called.{all_reached, row_calls}
+use Rattle.gb_mods.specs.Meant.{in_front, meant_by}
+use Rattle.gb_mods.specs.declared.meant.Meant.{Meant}
+use Rattle.gb_mods.specs.declared.meant.Meant.TheVariants.{Unknown, Declared, Any}
+use Rattle.gb_adversaries.proofs.Meanings.{declared_there}
 use Rattle.gb_reads.specs.declared.reads.TypedVar.{TypedVar}
 use Rattle.gb_reads.specs.Reads.{Vars}
 use Rattle.gb_premises.specs.Ordered.{is_same, placed, joined}
 use Rattle.gb_sim.specs.Need.{is_among, without, concern, before, if_known, written_need, of_branches, statement_need, row_need, need}
-use Rattle.gb_sim.specs.Reads.{head_reads, term_reads, row_reads, statement_reads, body_reads, list_reads, unless_local, globals_among, procedure_reads, with_reads, reads_by, reads_if, reached_reads}
+use Rattle.gb_sim.specs.Reads.{head_reads, term_reads, row_reads, statement_reads, body_reads, list_reads, unless_local, globals_among, procedure_reads, whole, reads_itself, reads_by, reads_if, reached_reads}
 use Rattle.gb_sim.specs.Sim.{read_in, variable_in, same_variable, first_known, equated, both, equated_at, equal_in, each_equal, variable_of, equality, with_equalities, equal_on, by_need, sim_row, IsAnswer}
 use Rattle.gb_shapes.specs.declared.place.Enumeration.{Enumeration}
-use Rattle.gb_readback.specs.Written.{is_variable_here}
+use Rattle.gb_readback.specs.Written.{is_variable_here, IsWrittenProcedure}
 use Rattle.gb_spelt_laws.specs.Named.{IsNamedType, IsNamedHead, IsNamed, AreNamed, IsNamedInstr, AreNamedInstrs, IsNamedSequent}
 use Rattle.gb_spelt_laws.specs.Rules.{IsNamedProcedure, AreNamedProcedures, KeepsNames}
 use Rattle.gb_spelt_laws.proofs.Trees.{AllNamed, node_named, terms_named, parts_named}
@@ -140,14 +145,22 @@ module _ (es : List Enumeration) where
     procedure_named : (f : Proc) → IsNamedProcedure es f → AreReads (procedure_reads f)
     procedure_named f n = globals_named (list_reads f.body.list ++ term_reads f.value) (reads_append (list_reads f.body.list) (term_reads f.value) (list_named f.body.list n.body) (term_named f.value n.value))
 
-    with_named : (o : Option Proc) → ((f : Proc) → o ≡ Some f → IsNamedProcedure es f) → (r : Option Vars) → Known r → Known (with_reads o r)
-    with_named (Some f) n (Some V) k W e = subst AreReads (same_Some (procedure_reads f ++ V) W e) (reads_append (procedure_reads f) V (procedure_named f (n f refl)) (k V refl))
-    with_named (Some f) n None k W e = absurd (none-some W e)
-    with_named None n r k W e = absurd (none-some W e)
+    itself_named : (p : ProcRef) → IsWrittenProcedure [] p → Known (reads_itself (meant_by ds p))
+    itself_named p h = by (meant_by ds p) refl
+      where
+        by : (m : Meant) → meant_by ds p ≡ m → Known (reads_itself m)
+        by Unknown e = none_known
+        by (Declared f) e = some_known (procedure_reads f) (procedure_named f (procedures.declared p h f (declared_there ds p f e)))
+        by (Any a qs) e = let z = procedures.asked p h a qs e in some_known (whole a) ((z.0, z.0), tt)
+
+    front_named : (o r : Option Vars) → Known o → Known r → Known (in_front o r)
+    front_named (Some V) (Some W) k l U e = subst AreReads (same_Some (V ++ W) U e) (reads_append V W (k V refl) (l W refl))
+    front_named (Some V) None k l U e = absurd (none-some U e)
+    front_named None r k l U e = absurd (none-some U e)
 
     by_named : (ps : List ProcRef) → AreWritten ps → Known (reads_by ds ps)
     by_named [] h = some_known [] tt
-    by_named (p ∷ ps) h = with_named (procedure_of ds p) (λ f k. procedures p h.0 f k) (reads_by ds ps) (by_named ps h.1)
+    by_named (p ∷ ps) h = front_named (reads_itself (meant_by ds p)) (reads_by ds ps) (itself_named p h.0) (by_named ps h.1)
 
     all_named : (o : Option (List ProcRef)) → ((ps : List ProcRef) → o ≡ Some ps → AreWritten ps) → Known (reads_if ds o)
     all_named None h = none_known
@@ -172,23 +185,23 @@ module _ (es : List Enumeration) where
     written_named b xs e V k h = either b (before xs (term_reads e) V) V (before_named xs (term_reads e) V (term_named e k) h) h
 
     mutual
-      statement_needs : (i : Instr) → IsNamedInstr es i → (V : Vars) → AreReads V → Known (statement_need ds i V)
-      statement_needs (Assign xs e) k V h = some_known (written_need (concern xs V) xs e V) (written_named (concern xs V) xs e V k.1 h)
-      statement_needs (Sample x d) k V h = some_known (written_need (may_lose ds d || concern (x ∷ []) V) (x ∷ []) d V) (written_named (may_lose ds d || concern (x ∷ []) V) (x ∷ []) d V k.1 h)
+      statement_needs : (i : Instr) → IsNamedInstr es i → (V : Vars) → AreReads V → Known (statement_need (exclusions ds) ds i V)
+      statement_needs (Assign xs e) k V h = some_known (written_need (concern (exclusions ds) xs V) xs e V) (written_named (concern (exclusions ds) xs V) xs e V k.1 h)
+      statement_needs (Sample x d) k V h = some_known (written_need (may_lose ds d || concern (exclusions ds) (x ∷ []) V) (x ∷ []) d V) (written_named (may_lose ds d || concern (exclusions ds) (x ∷ []) V) (x ∷ []) d V k.1 h)
       statement_needs (Call' xs p n ts) k V h =
           map_known (λ (os : Vars). before xs (row_reads ts ++ os) V) (λ os l. before_named xs (row_reads ts ++ os) V (reads_append (row_reads ts) os (row_named ts k.2) l) h) (reached_reads ds (p ∷ [])) (reached_named (p ∷ []) (k.1, tt))
-      statement_needs (If' e m a n b) k V h = branches_named (term_reads e) (term_named e k.0) (row_need ds a V) (row_need ds b V) (row_needs a k.1 V h) (row_needs b k.2 V h)
+      statement_needs (If' e m a n b) k V h = branches_named (term_reads e) (term_named e k.0) (row_need (exclusions ds) ds a V) (row_need (exclusions ds) ds b V) (row_needs a k.1 V h) (row_needs b k.2 V h)
       statement_needs (While' e v n a) k V h =
           let rs = term_reads e ++ (term_reads v ++ body_reads a) in
           map_known (λ (os : Vars). joined (rs ++ os) V) (λ os l. joined_named (rs ++ os) V (reads_append rs os (statement_named (While' e v n a) k) l) h) (reached_reads ds (row_calls a)) (reached_named (row_calls a) (row_written es a k.2))
 
-      row_needs : {n : Count} (is : Row_of-Instr n) → AreNamedInstrs es is → (V : Vars) → AreReads V → Known (row_need ds is V)
+      row_needs : {n : Count} (is : Row_of-Instr n) → AreNamedInstrs es is → (V : Vars) → AreReads V → Known (row_need (exclusions ds) ds is V)
       row_needs end_of-Instr k V h = some_known V h
-      row_needs (more_of-Instr i is) k V h = if_known_named (λ W. statement_need ds i W) (λ W l. statement_needs i k.0 W l) (row_need ds is V) (row_needs is k.1 V h)
+      row_needs (more_of-Instr i is) k V h = if_known_named (λ W. statement_need (exclusions ds) ds i W) (λ W l. statement_needs i k.0 W l) (row_need (exclusions ds) ds is V) (row_needs is k.1 V h)
 
-    needs_named : (is : List Instr) → EachNamed es is → (V : Vars) → AreReads V → Known (need ds is V)
+    needs_named : (is : List Instr) → EachNamed es is → (V : Vars) → AreReads V → Known (need (exclusions ds) ds is V)
     needs_named [] k V h = some_known V h
-    needs_named (i ∷ is) k V h = if_known_named (λ W. statement_need ds i W) (λ W l. statement_needs i k.0 W l) (need ds is V) (needs_named is k.1 V h)
+    needs_named (i ∷ is) k V h = if_known_named (λ W. statement_need (exclusions ds) ds i W) (λ W l. statement_needs i k.0 W l) (need (exclusions ds) ds is V) (needs_named is k.1 V h)
 
   -- What a form says to be equal.
 
@@ -269,7 +282,7 @@ module _ (es : List Enumeration) where
   module _ (ds : Declarations) (procedures : AreNamedProcedures es ds) where
     row_keeps : KeepsNames es (sim_row ds)
     row_keeps (equiv (body is) (body js) p q) h Gs e =
-        need_keeps p h.2 (if_known (λ V. need ds is V) (equal_in q)) (if_known_named (λ V. need ds is V) (λ V k. needs_named ds procedures is h.0 V k) (equal_in q) (equal_named_in q h.3)) Gs e
+        need_keeps p h.2 (if_known (λ V. need (exclusions ds) ds is V) (equal_in q)) (if_known_named (λ V. need (exclusions ds) ds is V) (λ V k. needs_named ds procedures is h.0 V k) (equal_in q) (equal_named_in q h.3)) Gs e
     row_keeps (equiv (body is) (procedure b) p q) h Gs e = refused_given Shape Gs e
     row_keeps (equiv (procedure a) b p q) h Gs e = refused_given Shape Gs e
     row_keeps (hoare a p q) h Gs e = refused_given Shape Gs e

@@ -16,6 +16,7 @@ use Rattle.gb_goal.specs.Answers.Answer.{given}
 use Rattle.gb_goal.specs.Goal.{Goal}
 use Rattle.gb_goal.specs.Rows.{refusing}
 use Rattle.gb_goal.specs.Scope.{Declarations}
+use Rattle.gb_mods.specs.Exclusions.{exclusions}
 use Rattle.gb_typing.proofs.Given.{refused_given, same_given}
 use Rattle.gb_typing.proofs.Lists.{if_shape}
 use Rattle.gb_parts.specs.OneBody.{OneBody}
@@ -81,7 +82,7 @@ module _ (es : List Enumeration) where
 
   exchange_keeps : (ds : Declarations) (n f s : ℕ) (is : List Instr) → EachNamed es is → (js : List Instr) → exchange ds n f s is ≡ given js → EachNamed es js
   exchange_keeps ds n f s is w js e =
-      let z = given_bind (apart (effects_of ds (first n f is)) (effects_of ds (second n f s is))) (λ _. given (exchanged n f s is)) js e in
+      let z = given_bind (apart (exclusions ds) (effects_of ds (first n f is)) (effects_of ds (second n f s is))) (λ _. given (exchanged n f s is)) js e in
       subst (EachNamed es) (same_given (exchanged n f s is) js z.2) (exchanged_named n f s is w)
 
   unless : (b : Bool) (a : Answer (List Instr)) (js : List Instr) → (if b then refusing Argument else a) ≡ given js → a ≡ given js

@@ -6,14 +6,17 @@ use Rattle.gb_core.specs.declared.ty.Ty.TheVariants as ty
 use Rattle.gb_terms.specs.declared.decl.Module.{Module}
 use Rattle.gb_terms.specs.declared.decl.Proc.{Proc}
 use Rattle.gb_terms.specs.declared.decl.TypedName.{TypedName}
+use Rattle.gb_terms.specs.declared.module.Bind.{Bind}
 use Rattle.gb_terms.specs.declared.module.ProcRef.{ProcRef}
 use Rattle.gb_terms.specs.declared.term.Term.{Term}
 use Rattle.gb_goal.specs.Answers.Answer.{given}
 use Rattle.gb_goal.specs.Goal.{Goal}
 use Rattle.gb_goal.specs.Rows.{Row}
-use Rattle.gb_goal.specs.Scope.{Declarations, entry_of, module_of, procedure_of}
+use Rattle.gb_goal.specs.Scope.{Declarations, abstract_of, entry_of, module_of, procedure_of}
 use Rattle.gb_goal.specs.declared.scope.Entry.TheVariants as entry
 use Rattle.gb_goal.specs.declared.scope.Operator.{Operator}
+use Rattle.gb_mods.specs.Meant.{meant_by}
+use Rattle.gb_mods.specs.declared.meant.Meant.TheVariants.{Any}
 use Rattle.gb_steps.specs.declared.step.AmbientRule.{AmbientRule}
 use Rattle.gb_steps.specs.declared.step.AmbientRule.TheVariants as ambient
 use Rattle.gb_steps.specs.declared.step.BodyRule.{BodyRule}
@@ -36,7 +39,7 @@ use Rattle.gb_steps.specs.declared.step.UseRule.TheVariants as use_rule
 use Rattle.gb_typing.specs.Programs.{locals_of}
 use Rattle.gb_shapes.specs.declared.place.Enumeration.{Enumeration}
 use Rattle.gb_print_names.specs.Names.{constants}
-use Rattle.gb_readback.specs.Written.{is_name_text, is_path_there, IsWrittenProcedure}
+use Rattle.gb_readback.specs.Written.{is_name_text, is_path, is_path_there, IsWrittenProcedure}
 use Rattle.gb_spelt_laws.specs.Named.{IsNamedType, IsNamed, IsNamedInstr, IsNamedGoal, IsNamedVariable}
 
 -- the first value of a type of locals has a name where values of the type have names
@@ -54,13 +57,16 @@ pub record IsNamedProcedure (es : List Enumeration) (p : Proc) : Type 0 where
   pub body : AllByRecursion (IsNamedInstr es) p.body.list
   pub value : IsNamed es p.value
 
--- each procedure of the scope that a goal may speak of: what it calls stands in place of its module's parameters
-abbrev pub AreNamedProcedures : List Enumeration → Declarations → Type 0
-AreNamedProcedures es ds = (f : ProcRef) → IsWrittenProcedure [] f → (p : Proc) → procedure_of ds f ≡ Some p → IsNamedProcedure es p
+-- The procedures of the scope that a goal may speak of. What a declared one calls stands in place of its module's parameters; one of an
+-- abstract module calls procedures that a goal may speak of, too, and its module has a name.
+pub record AreNamedProcedures (es : List Enumeration) (ds : Declarations) : Type 0 where
+  pub declared : (f : ProcRef) → IsWrittenProcedure [] f → (p : Proc) → procedure_of ds f ≡ Some p → IsNamedProcedure es p
+  pub asked : (f : ProcRef) → IsWrittenProcedure [] f → (a : List ℕ) (qs : List ProcRef) → meant_by ds f ≡ Any a qs → (is_path a ≡ true) × AllByRecursion (IsWrittenProcedure []) qs
 
--- the globals of each module of the scope
-abbrev pub AreNamedGlobals : Declarations → Type 0
-AreNamedGlobals ds = (x : List ℕ) (m : Module) → module_of ds x ≡ Some m → AllByRecursion IsNamedVariable m.globals
+-- the globals of each module of the scope, and the names of abstract ones, by which all of theirs are read together
+pub record AreNamedGlobals (ds : Declarations) : Type 0 where
+  pub declared : (x : List ℕ) (m : Module) → module_of ds x ≡ Some m → AllByRecursion IsNamedVariable m.globals
+  pub together : (a : List ℕ) (b : Bind) → abstract_of ds a ≡ Some b → is_path a ≡ true
 
 -- the body of each operator of the scope
 abbrev pub AreNamedOperators : List Enumeration → Declarations → Type 0

@@ -2,18 +2,24 @@
 use Rattle.std.proofs.Common.{◌≡◌, ◌≢◌, Bool, true, false, ◌||◌, if◌then◌else◌, List, [], ◌∷◌, map, Option, Some, None, refl, ap, sym, ◌∙◌}
 use Rattle.std.proofs.lemmas.Bool.{false≢true}
 use Rattle.std.proofs.lemmas.Option.{none-some}
-use Rattle.std.specs.List.{AllByRecursion, filter}
+use Rattle.std.specs.List.{AllByRecursion, filter, list_any}
+use Rattle.gb_core.specs.declared.ty.Ty.TheVariants.{Bool as bool_ty}
 use Rattle.gb_core.specs.declared.var.Var.{Var}
 use Rattle.gb_core.specs.declared.var.Var.TheVariants as var
 use Rattle.gb_terms.proofs.Equality.{var_eq-Decides}
 use Rattle.gb_terms.specs.declared.module.Mexp.TheVariants.{Name as named}
-use Rattle.gb_meaning.specs.Names.{Path}
+use Rattle.gb_meaning.specs.Names.{Name, Path}
+use Rattle.gb_meaning.specs.Setting.{Setting}
 use Rattle.gb_meaning.specs.Values.{Global, Types}
-use Rattle.gb_walk.specs.Clash.{clashes, least_from, lesser}
+use Rattle.gb_walk.specs.Clash.{Exclusions, clashes, least_from, lesser}
 use Rattle.gb_laws.specs.Cells.{Key}
 use Rattle.gb_laws.specs.Cells.Key.{global, local}
 use Rattle.gb_laws.specs.Writes.{key_of_global, keys_of, IsNone, Spares}
 use Rattle.gb_laws.proofs.Cells.{key_discrete}
+use Rattle.gb_holds.specs.Footprints.{is_global}
+use Rattle.gb_typing.specs.Forms.{IsKeptOff}
+use Rattle.gb_typing.proofs.ClashFree.{no_share, none_both}
+use Rattle.gb_typing.proofs.Globals.{none_of, same_global}
 use Rattle.gb_premises.specs.declared.effects.Effects.{Effects}
 use Rattle.gb_trans.specs.Effects.{crossing, meets}
 use Rattle.gb_trans.proofs.Named.{EachNamed}
@@ -84,20 +90,39 @@ globals_none : (p : Path) (fs : List Global) → AllByRecursion (λ k. IsNone k 
 globals_none p [] = tt
 globals_none p (f ∷ fs) = (((λ e. false≢true (ap is_local e)), tt), globals_none p fs)
 
-apart_keys : (t : Types) (x y : Var) → clashes x y ≡ false → AllByRecursion (λ k. IsNone k (keys_of t x)) (keys_of t y)
-apart_keys t (var.Global m x) (var.Global n y) e = (((λ p. false≢true (sym e ∙ (var_eq-Decides (var.Global m x) (var.Global n y)).1 (sym (ap as_var p)))), tt), tt)
-apart_keys t (var.Global m x) (var.Local y) e = (((λ p. false≢true (sym (ap is_local p))), tt), tt)
-apart_keys t (var.Global m x) (var.Glob b) e = cc
-apart_keys t (var.Local x) (var.Global n y) e = (((λ p. false≢true (ap is_local p)), tt), tt)
-apart_keys t (var.Local x) (var.Local y) e = (((λ p. false≢true (sym e ∙ (var_eq-Decides (var.Local x) (var.Local y)).1 (sym (ap as_var p)))), tt), tt)
-apart_keys t (var.Local x) (var.Glob b) e = globals_none (x ∷ []) (t.footprint (named b))
-apart_keys t (var.Glob a) (var.Global n y) e = cc
-apart_keys t (var.Glob a) (var.Local y) e = (local_none (y ∷ []) (t.footprint (named a)), tt)
-apart_keys t (var.Glob a) (var.Glob b) e = cc
+each_other : (x : Global) (zs : List Global) → list_any (is_global x) zs ≡ false → AllByRecursion (λ k. IsNone k (key_of_global x ∷ [])) (map key_of_global zs)
+each_other x [] e = tt
+each_other x (z ∷ zs) e =
+    let k = either_false (is_global x z) (list_any (is_global x) zs) e in
+    (((λ p. false≢true (sym k.0 ∙ same_global x z (sym p))), tt), each_other x zs k.1)
+
+all_other : (xs ys : List Global) → list_any (λ z. list_any (is_global z) xs) ys ≡ false → AllByRecursion (λ k. IsNone k (map key_of_global xs)) (map key_of_global ys)
+all_other xs [] e = tt
+all_other xs (y ∷ ys) e =
+    let k = either_false (list_any (is_global y) xs) (list_any (λ z. list_any (is_global z) xs) ys) e in
+    (none_of y xs k.0, all_other xs ys k.1)
+
+abbrev named_global : Name → Name → Global
+named_global m x = record { parent = m; name = x; ty = bool_ty }
+
+module _ (g : Setting) (es : Exclusions) (off : IsKeptOff es g) where
+  abbrev own : Name → List Global
+  own a = g.types.footprint (named a)
+
+  apart_keys : (x y : Var) → clashes es x y ≡ false → AllByRecursion (λ k. IsNone k (keys_of g.types x)) (keys_of g.types y)
+  apart_keys (var.Global m x) (var.Global n y) e = (((λ p. false≢true (sym e ∙ (var_eq-Decides (var.Global m x) (var.Global n y)).1 (sym (ap as_var p)))), tt), tt)
+  apart_keys (var.Global m x) (var.Local y) e = (((λ p. false≢true (sym (ap is_local p))), tt), tt)
+  apart_keys (var.Global m x) (var.Glob b) e = each_other (named_global m x) (own b) (no_share g es off (var.Global m x) (var.Glob b) e)
+  apart_keys (var.Local x) (var.Global n y) e = (((λ p. false≢true (ap is_local p)), tt), tt)
+  apart_keys (var.Local x) (var.Local y) e = (((λ p. false≢true (sym e ∙ (var_eq-Decides (var.Local x) (var.Local y)).1 (sym (ap as_var p)))), tt), tt)
+  apart_keys (var.Local x) (var.Glob b) e = globals_none (x ∷ []) (own b)
+  apart_keys (var.Glob a) (var.Global n y) e = (none_of (named_global n y) (own a) (no_share g es off (var.Glob a) (var.Global n y) e), tt)
+  apart_keys (var.Glob a) (var.Local y) e = (local_none (y ∷ []) (own a), tt)
+  apart_keys (var.Glob a) (var.Glob b) e = all_other (own a) (own b) (none_both (own b) (own a) (no_share g es off (var.Glob a) (var.Glob b) e))
 
 -- of each of these variables no one clashes with y
-abbrev pub NoneMeets : List Var → List Var → Type 0
-NoneMeets xs ys = AllByRecursion (λ x. meets ys x ≡ false) xs
+abbrev pub NoneMeets : Exclusions → List Var → List Var → Type 0
+NoneMeets es xs ys = AllByRecursion (λ x. meets es ys x ≡ false) xs
 
 module _ (t : Types) where
   with_keys : (x : Var) (xs : List Var) (ks : List Key) → AllByRecursion (λ k. IsNone k (keys_of t x)) ks → AllByRecursion (λ k. naming t xs k ≡ false) ks →
@@ -109,19 +134,20 @@ module _ (t : Types) where
   no_keys [] = tt
   no_keys (k ∷ ks) = (refl, no_keys ks)
 
-  unnamed_by : (xs : List Var) (y : Var) → AllByRecursion (λ x. clashes x y ≡ false) xs → AllByRecursion (λ k. naming t xs k ≡ false) (keys_of t y)
-  unnamed_by [] y h = no_keys (keys_of t y)
-  unnamed_by (x ∷ xs) y h = with_keys x xs (keys_of t y) (apart_keys t x y h.0) (unnamed_by xs y h.1)
+module _ (g : Setting) (es : Exclusions) (off : IsKeptOff es g) where
+  unnamed_by : (xs : List Var) (y : Var) → AllByRecursion (λ x. clashes es x y ≡ false) xs → AllByRecursion (λ k. naming g.types xs k ≡ false) (keys_of g.types y)
+  unnamed_by [] y h = no_keys g.types (keys_of g.types y)
+  unnamed_by (x ∷ xs) y h = with_keys g.types x xs (keys_of g.types y) (apart_keys g es off x y h.0) (unnamed_by xs y h.1)
 
-  first_meets : (xs : List Var) (y : Var) (ys : List Var) → NoneMeets xs (y ∷ ys) → AllByRecursion (λ x. clashes x y ≡ false) xs × NoneMeets xs ys
+  first_meets : (xs : List Var) (y : Var) (ys : List Var) → NoneMeets es xs (y ∷ ys) → AllByRecursion (λ x. clashes es x y ≡ false) xs × NoneMeets es xs ys
   first_meets [] y ys h = (tt, tt)
   first_meets (x ∷ xs) y ys h =
-      let z = either_false (clashes x y) (meets ys x) h.0 in
+      let z = either_false (clashes es x y) (meets es ys x) h.0 in
       let w = first_meets xs y ys h.1 in
       ((z.0, w.0), (z.1, w.1))
 
   -- the places of variables with which none of others clashes
-  pub unmet_unnamed : (xs ys : List Var) → NoneMeets xs ys → EachNamed t (λ k. naming t xs k ≡ false) ys
+  pub unmet_unnamed : (xs ys : List Var) → NoneMeets es xs ys → EachNamed g.types (λ k. naming g.types xs k ≡ false) ys
   unmet_unnamed xs [] h = tt
   unmet_unnamed xs (y ∷ ys) h = let z = first_meets xs y ys h in (unnamed_by xs y z.0, unmet_unnamed xs ys z.1)
 
@@ -143,8 +169,8 @@ nothing_filtered P (x ∷ xs) e = by_test (P x) refl e (nothing_filtered P xs)
     by_test true d e go = cc
     by_test false d e go = (d, go e)
 
-pub uncrossed : (a b : Effects) → crossing a b ≡ None → NoneMeets a.written b.touched × NoneMeets b.written a.touched
-uncrossed a b e =
-    let z = none_least (least_from None (filter (meets b.touched) a.written)) (filter (meets a.touched) b.written) e in
-    let y = none_least None (filter (meets b.touched) a.written) z.0 in
-    (nothing_filtered (meets b.touched) a.written y.1, nothing_filtered (meets a.touched) b.written z.1)
+pub uncrossed : (es : Exclusions) (a b : Effects) → crossing es a b ≡ None → NoneMeets es a.written b.touched × NoneMeets es b.written a.touched
+uncrossed es a b e =
+    let z = none_least (least_from None (filter (meets es b.touched) a.written)) (filter (meets es a.touched) b.written) e in
+    let y = none_least None (filter (meets es b.touched) a.written) z.0 in
+    (nothing_filtered (meets es b.touched) a.written y.1, nothing_filtered (meets es a.touched) b.written z.1)

@@ -10,29 +10,34 @@ use Rattle.gb_terms.specs.declared.module.ProcRef.{ProcRef}
 use Rattle.gb_terms.specs.declared.term.Head.TheVariants.{Assign, Sample, Call', If', While'}
 use Rattle.gb_terms.specs.declared.term.Instr.{Instr, Row_of-Instr, end_of-Instr, more_of-Instr}
 use Rattle.gb_meaning.specs.Commands.{statements}
-use Rattle.gb_meaning.specs.Program.Routine.{routine}
 use Rattle.gb_meaning.specs.Setting.{Setting}
 use Rattle.gb_meaning.specs.State.{State}
 use Rattle.gb_laws.specs.Cells.{Key}
 use Rattle.gb_laws.specs.Writes.{Spares, Unwritten}
 use Rattle.gb_holds.specs.Footprints as own
-use Rattle.gb_holds.specs.Footprints.{globals_among, touched_in, variables, variables_in}
+use Rattle.gb_holds.specs.Footprints.{touched_in, variables, variables_in}
 use Rattle.gb_goal.specs.Scope.{Declarations, procedure_of}
 use Rattle.gb_mods.specs.Called.{all_reached, calls}
 use Rattle.gb_mods.specs.Footprint.{touched}
-use Rattle.gb_mods.specs.Read.{each_read, row_read, statement_read}
+use Rattle.gb_mods.specs.Meant.{in_front, meant_by}
+use Rattle.gb_mods.specs.Read.{each_read, read_itself, row_read, statement_read}
 use Rattle.gb_mods.specs.Touched.{apart, each_touched, touched_itself}
-use Rattle.gb_mods.specs.Written.{row_targets, statement_targets, targets, with_written, written_by}
+use Rattle.gb_mods.specs.Written.{row_targets, statement_targets, targets, written_by, written_itself}
+use Rattle.gb_mods.specs.declared.meant.Meant.{Meant}
+use Rattle.gb_mods.specs.declared.meant.Meant.TheVariants.{Unknown, Declared, Any}
 use Rattle.gb_mods.proofs.Closed.{AreFollowed, IsIn, all_closed}
+use Rattle.gb_adversaries.specs.Means.{Means}
 use Rattle.gb_typing.specs.Context.{Context}
+use Rattle.gb_typing.specs.Forms.{IsKeptOff}
 use Rattle.gb_typing.specs.Programs.{EachStatement, IsProcedure}
+use Rattle.gb_walk.specs.Clash.{Exclusions}
 use Rattle.gb_prog.specs.Loops.{RunAlike}
 use Rattle.gb_premises.specs.declared.effects.Effects.{Effects}
 use Rattle.gb_trans.specs.Effects.{crossing, effects_if, effects_of}
 use Rattle.gb_trans.proofs.Apart.{naming, uncrossed, unmet_unnamed, unnamed_spared}
 use Rattle.gb_trans.proofs.Crossing as alike
 use Rattle.gb_trans.proofs.Named.{EachNamed, named_append, named_both, named_spares, named_weaken}
-use Rattle.gb_trans.proofs.ReadPlaces.{At, Framed, IsRead, read_within, with_locals, without_locals}
+use Rattle.gb_trans.proofs.ReadPlaces.{AreRead, At, Framed, read_within, with_locals, without_locals}
 use Rattle.gb_trans.proofs.Unwritten.{leave}
 use Rattle.gb_trans.proofs.Within.{ReadsWithin}
 use mathlib.Core.Former.{Count}
@@ -89,50 +94,68 @@ module _ (g : Setting) (P : Key → Type 0) where
       let z = named_append g.types P (own.touched apart i) (each_touched is) v in
       named_both g.types P (statement_read i) (each_read is) (statement_reads i z.0) (list_reads is z.1)
 
-module _ (g : Setting) (ds : Declarations) (G : Key → Type 0) where
-  each_named : (ps : List ProcRef) → EachNamed g.types G (touched ds ps) → (p : ProcRef) → IsIn ps p → EachNamed g.types G (touched_itself (procedure_of ds p))
-  each_named [] v p i = absurd i
-  each_named (q ∷ ps) v p (inl e) = subst (λ z. EachNamed g.types G (touched_itself (procedure_of ds z))) e (named_append g.types G (touched_itself (procedure_of ds q)) (touched ds ps) v).0
-  each_named (q ∷ ps) v p (inr i) = each_named ps (named_append g.types G (touched_itself (procedure_of ds q)) (touched ds ps) v).1 p i
+-- it is known what is written
+abbrev AreThere : Option (List Var) → Type 0
+AreThere None = ⊥
+AreThere (Some xs) = Unit {0}
 
-  procedures_read : (ps : List ProcRef) → EachNamed g.types G (touched ds ps) → ((p : ProcRef) → IsIn ps p → (a : Proc) × (procedure_of ds p ≡ Some a)) → (p : ProcRef) → IsIn ps p → IsRead g ds G p
-  procedures_read ps v there p i =
-      let d = there p i in
-      let a = d.0 in
-      let all = with_locals g G (each_touched a.body.list ++ variables a.value) (subst (λ o. EachNamed g.types G (touched_itself o)) d.1 (each_named ps v p i)) in
+there_front : (o r : Option (List Var)) → AreThere (in_front o r) → AreThere o × AreThere r
+there_front None r h = absurd h
+there_front (Some xs) None h = absurd h
+there_front (Some xs) (Some ys) h = (tt, tt)
+
+each_there : (ds : Declarations) (ps : List ProcRef) → AreThere (written_by ds ps) → (p : ProcRef) → IsIn ps p → AreThere (written_itself (meant_by ds p))
+each_there ds [] h p i = absurd i
+each_there ds (q ∷ ps) h p i = let z = there_front (written_itself (meant_by ds q)) (written_by ds ps) h in by_place z.0 (each_there ds ps z.1 p) i
+  where
+    by_place : AreThere (written_itself (meant_by ds q)) → (IsIn ps p → AreThere (written_itself (meant_by ds p))) → IsIn (q ∷ ps) p → AreThere (written_itself (meant_by ds p))
+    by_place h behind (inl f) = subst (λ z. AreThere (written_itself (meant_by ds z))) f h
+    by_place h behind (inr j) = behind j
+
+module _ (g : Setting) (G : Key → Type 0) where
+  -- what a procedure touches itself it reads, and what it writes is among it
+  touched_read : (m : Meant) → EachNamed g.types G (touched_itself m) → AreThere (written_itself m) → AreRead g G (read_itself m)
+  touched_read Unknown v h = absurd h
+  touched_read (Declared a) v h =
+      let all = with_locals g G (each_touched a.body.list ++ variables a.value) v in
       let parts = named_append g.types (Framed G) (each_touched a.body.list) (variables a.value) all in
-      record {
-        found = a;
-        declared = d.1;
-        named_there = without_locals g G (each_read a.body.list ++ variables a.value)
-            (named_both g.types (Framed G) (each_read a.body.list) (variables a.value) (list_reads g (Framed G) a.body.list parts.0) parts.1);
-      }
+      without_locals g G (each_read a.body.list ++ variables a.value)
+      (named_both g.types (Framed G) (each_read a.body.list) (variables a.value) (list_reads g (Framed G) a.body.list parts.0) parts.1)
+  touched_read (Any a qs) v h = v
+
+  abbrev IfNamed : Option (List Var) → Type 0
+  IfNamed None = Unit {0}
+  IfNamed (Some xs) = EachNamed g.types G xs
+
+  touched_written : (m : Meant) → EachNamed g.types G (touched_itself m) → IfNamed (written_itself m)
+  touched_written Unknown v = tt
+  touched_written (Declared a) v =
+      let all = with_locals g G (each_touched a.body.list ++ variables a.value) v in
+      without_locals g G (targets a.body.list) (list_names g (Framed G) a.body.list (named_append g.types (Framed G) (each_touched a.body.list) (variables a.value) all).0)
+  touched_written (Any a qs) v = v
+
+  named_front : (o r : Option (List Var)) → IfNamed o → IfNamed r → IfNamed (in_front o r)
+  named_front None r h k = tt
+  named_front (Some xs) None h k = tt
+  named_front (Some xs) (Some ys) h k = named_both g.types G xs ys h k
+
+module _ (g : Setting) (ds : Declarations) (G : Key → Type 0) where
+  each_named : (ps : List ProcRef) → EachNamed g.types G (touched ds ps) → (p : ProcRef) → IsIn ps p → EachNamed g.types G (touched_itself (meant_by ds p))
+  each_named [] v p i = absurd i
+  each_named (q ∷ ps) v p (inl e) = subst (λ z. EachNamed g.types G (touched_itself (meant_by ds z))) e (named_append g.types G (touched_itself (meant_by ds q)) (touched ds ps) v).0
+  each_named (q ∷ ps) v p (inr i) = each_named ps (named_append g.types G (touched_itself (meant_by ds q)) (touched ds ps) v).1 p i
+
+  procedures_read : (ps : List ProcRef) → EachNamed g.types G (touched ds ps) → (xs : List Var) → written_by ds ps ≡ Some xs → (p : ProcRef) → IsIn ps p → AreRead g G (read_itself (meant_by ds p))
+  procedures_read ps v xs e p i = touched_read g G (meant_by ds p) (each_named ps v p i) (each_there ds ps (subst AreThere (sym e) tt) p i)
+
+  names_written : (ps : List ProcRef) → EachNamed g.types G (touched ds ps) → IfNamed g G (written_by ds ps)
+  names_written [] v = tt
+  names_written (p ∷ ps) v =
+      let z = named_append g.types G (touched_itself (meant_by ds p)) (touched ds ps) v in
+      named_front g G (written_itself (meant_by ds p)) (written_by ds ps) (touched_written g G (meant_by ds p) z.0) (names_written ps z.1)
 
   procedures_name : (ps : List ProcRef) → EachNamed g.types G (touched ds ps) → (xs : List Var) → written_by ds ps ≡ Some xs → EachNamed g.types G xs
-  procedures_name [] v xs e = subst (EachNamed g.types G) (same_Some [] xs e) tt
-  procedures_name (p ∷ ps) v xs e = by_parts (λ u ys c. procedures_name ps u ys c) (procedure_of ds p) refl (written_by ds ps) refl e
-    where
-      by_parts : (EachNamed g.types G (touched ds ps) → (ys : List Var) → written_by ds ps ≡ Some ys → EachNamed g.types G ys) →
-          (o : Option Proc) → procedure_of ds p ≡ o → (r : Option (List Var)) → written_by ds ps ≡ r → with_written o r ≡ Some xs → EachNamed g.types G xs
-      by_parts behind None d r c e = absurd (none-some xs e)
-      by_parts behind (Some a) d None c e = absurd (none-some xs e)
-      by_parts behind (Some a) d (Some ys) c e =
-          let z = named_append g.types G (touched_itself (procedure_of ds p)) (touched ds ps) v in
-          let all = with_locals g G (each_touched a.body.list ++ variables a.value) (subst (λ o. EachNamed g.types G (touched_itself o)) d z.0) in
-          let body = list_names g (Framed G) a.body.list (named_append g.types (Framed G) (each_touched a.body.list) (variables a.value) all).0 in
-          subst (EachNamed g.types G) (same_Some (globals_among (targets a.body.list) ++ ys) xs e)
-          (named_both g.types G (globals_among (targets a.body.list)) ys (without_locals g G (targets a.body.list) body) (behind z.1 ys c))
-
-each_declared : (ds : Declarations) (ps : List ProcRef) (xs : List Var) → written_by ds ps ≡ Some xs → (p : ProcRef) → IsIn ps p → (a : Proc) × (procedure_of ds p ≡ Some a)
-each_declared ds [] xs e p i = absurd i
-each_declared ds (q ∷ ps) xs e p i = by_parts (λ ys c j. each_declared ds ps ys c p j) (procedure_of ds q) refl (written_by ds ps) refl e i
-  where
-    by_parts : ((ys : List Var) → written_by ds ps ≡ Some ys → IsIn ps p → (a : Proc) × (procedure_of ds p ≡ Some a)) →
-        (o : Option Proc) → procedure_of ds q ≡ o → (r : Option (List Var)) → written_by ds ps ≡ r → with_written o r ≡ Some xs → IsIn (q ∷ ps) p → (a : Proc) × (procedure_of ds p ≡ Some a)
-    by_parts behind None d r c e i = absurd (none-some xs e)
-    by_parts behind (Some a) d None c e i = absurd (none-some xs e)
-    by_parts behind (Some a) d (Some ys) c e (inl f) = (a, ap (procedure_of ds) (sym f) ∙ d)
-    by_parts behind (Some a) d (Some ys) c e (inr j) = behind ys c j
+  procedures_name ps v xs e = subst (IfNamed g G) e (names_written ps v)
 
 -- how effects are known
 record IsKnown (ds : Declarations) (is : List Instr) (e : Effects) : Type 0 where
@@ -158,12 +181,12 @@ known ds is e f = by_reached (all_reached ds (calls is)) refl f
     by_reached None r f = absurd (none-some e f)
     by_reached (Some S) r f = by_others S r (written_by ds S) refl f
 
--- declared procedures are typed, and those of the setting
+-- declared procedures are typed, and references mean what they stand for
 module _ (g : Setting) (ds : Declarations) (c : Context) (typed : (p : ProcRef) (a : Proc) → procedure_of ds p ≡ Some a → IsProcedure c a)
-    (linked : (p : ProcRef) (a : Proc) → procedure_of ds p ≡ Some a → g.procedure p ≡ Some (routine a.params a.locals (statements g a.body.list) a.value)) where
+    (means : (p : ProcRef) → Means g p (meant_by ds p)) where
   module _ (is : List Instr) (e : Effects) (k : IsKnown ds is e) where
     writes : (q : Key) → Spares g.types e.written q → Unwritten g (statements g is) q
-    writes q s = leave g ds linked k.reached k.closed is k.there k.others k.found q (subst (λ z. Spares g.types z.written q) k.effects s)
+    writes q s = leave g ds means k.reached k.closed is k.there k.others k.found q (subst (λ z. Spares g.types z.written q) k.effects s)
 
     touches : (G : Key → Type 0) → EachNamed g.types G e.touched → EachNamed g.types G (each_touched is) × EachNamed g.types G (touched ds k.reached)
     touches G v = named_append g.types G (each_touched is) (touched ds k.reached) (subst (λ z. EachNamed g.types G z.touched) k.effects v)
@@ -171,7 +194,7 @@ module _ (g : Setting) (ds : Declarations) (c : Context) (typed : (p : ProcRef) 
     reads : (ls : List TypedName) → EachStatement c ls is → (G : Key → Type 0) → EachNamed g.types G e.touched → ReadsWithin g (At G) (statements g is)
     reads ls w G v =
         let z = touches G v in
-        read_within g ds c typed linked k.reached k.closed G (procedures_read g ds G k.reached z.1 (each_declared ds k.reached k.others k.found)) ls is w k.there (list_reads g G is z.0)
+        read_within g ds c typed means k.reached k.closed G (procedures_read g ds G k.reached z.1 k.others k.found) ls is w k.there (list_reads g G is z.0)
 
     untouched : (q : Key) → EachNamed g.types (λ r. q ≢ r) e.touched → Unwritten g (statements g is) q
     untouched q v =
@@ -189,14 +212,14 @@ module _ (g : Setting) (ds : Declarations) (c : Context) (typed : (p : ProcRef) 
   leave_spared is e x = writes is e (known ds is e x)
 
   -- statements of which nothing crosses run alike in either order
-  pub uncrossed_alike : (ls : List TypedName) (is js : List Instr) → EachStatement c ls is → EachStatement c ls js → (a b : Effects) → effects_of ds is ≡ Some a → effects_of ds js ≡ Some b →
-      crossing a b ≡ None → (s : State) → RunAlike g s (statements g (is ++ js)) (statements g (js ++ is))
-  uncrossed_alike ls is js w v a b x y e s =
+  pub uncrossed_alike : (es : Exclusions) → IsKeptOff es g → (ls : List TypedName) (is js : List Instr) → EachStatement c ls is → EachStatement c ls js → (a b : Effects) → effects_of ds is ≡ Some a → effects_of ds js ≡ Some b →
+      crossing es a b ≡ None → (s : State) → RunAlike g s (statements g (is ++ js)) (statements g (js ++ is))
+  uncrossed_alike es off ls is js w v a b x y e s =
       let k = known ds is a x in
       let l = known ds js b y in
-      let u = uncrossed a b e in
-      let on_is = unmet_unnamed g.types b.written a.touched u.1 in
-      let on_js = unmet_unnamed g.types a.written b.touched u.0 in
+      let u = uncrossed es a b e in
+      let on_is = unmet_unnamed g es off b.written a.touched u.1 in
+      let on_js = unmet_unnamed g es off a.written b.touched u.0 in
       alike.crossing g s is js (naming g.types a.written) (naming g.types b.written)
       (λ q t. writes is a k q (unnamed_spared g.types a.written q t)) (λ q t. writes js b l q (unnamed_spared g.types b.written q t))
       (reads is a k ls w (λ q. naming g.types b.written q ≡ false) on_is) (reads js b l ls v (λ q. naming g.types a.written q ≡ false) on_js)

@@ -1,6 +1,6 @@
 -- Statements read no places but those that they, and the procedures that they reach, are found to read.
 use Rattle.std.proofs.Common.{◌≡◌, inl, inr, List, [], ◌∷◌, ◌++◌, map, Option, Some, None, refl, sym, ◌∙◌, subst}
-use Rattle.std.proofs.lemmas.Option.{same_Some, none-some}
+use Rattle.std.proofs.lemmas.Option.{same_Some}
 use Rattle.std.specs.List.{AllByRecursion}
 use Rattle.gb_core.specs.declared.ty.Ty.{Ty}
 use Rattle.gb_core.specs.declared.var.Var.{Var}
@@ -25,12 +25,21 @@ use Rattle.gb_laws.specs.Cells.{Key, Cell, Cells, Covers, cells_of, global_cell}
 use Rattle.gb_laws.specs.Cells.Key.{global, local}
 use Rattle.gb_laws.specs.Reads.{leaf_cells, program_cells, routine_cells, row_cells, term_cells, terms_cells}
 use Rattle.gb_laws.specs.Writes.{key_of_global, keys_of}
-use Rattle.gb_laws.proofs.NearRuns.{InFrame, with_frame}
+use Rattle.gb_laws.proofs.NearRuns.{InFrame, with_frame, with_frame_covers}
 use Rattle.gb_holds.specs.Footprints.{globals_among, head_variables, variables, variables_in}
 use Rattle.gb_goal.specs.Scope.{Declarations, procedure_of}
 use Rattle.gb_mods.specs.Called.{called_by, row_calls, calls}
-use Rattle.gb_mods.specs.Read.{each_read, read_by, read_itself, row_read, with_read}
+use Rattle.gb_mods.specs.Meant.{in_front, meant_by}
+use Rattle.gb_mods.specs.Read.{each_read, read_by, read_itself, row_read}
+use Rattle.gb_mods.specs.declared.meant.Meant.{Meant}
+use Rattle.gb_mods.specs.declared.meant.Meant.TheVariants.{Unknown, Declared, Any}
 use Rattle.gb_mods.proofs.Closed.{AreFollowed, IsIn}
+use Rattle.gb_adversaries.specs.AnyOf.{IfOneOf}
+use Rattle.gb_adversaries.specs.Carried.{EachCarried, EachCarriedBy}
+use Rattle.gb_adversaries.specs.Means.{IfDeclared, Means}
+use Rattle.gb_adversaries.proofs.Carried.{each_carried, each_procedure}
+use Rattle.gb_adversaries.proofs.Meanings.{if_declared}
+use Rattle.gb_adversaries.proofs.Reading.{reads_of_any}
 use Rattle.gb_typing.specs.Context.{Context, procedure}
 use Rattle.gb_typing.specs.Modules.{ProcedureType}
 use Rattle.gb_typing.specs.Programs.{AreArguments, AreStatements, EachStatement, IsCall, IsProcedure}
@@ -100,16 +109,11 @@ module _ (g : Setting) (P : Key → Type 0) where
 module _ (g : Setting) (S : List ProcRef) (G : Key → Type 0) where
   -- what a routine reads that stands for one of them
   abbrev pub IsGood : Routine → Type 0
-  IsGood r = (p : ProcRef) → IsIn S p → g.procedure p ≡ Some r → Covers (with_frame (At G)) (routine_cells g r)
+  IsGood = IfOneOf g S (λ r. Covers (with_frame (At G)) (routine_cells g r))
 
+  -- .. and each that a program carries
   abbrev CallsGood : Program → Type 0
-  CallsGood done = Unit {0}
-  CallsGood (assign xs e c) = CallsGood c
-  CallsGood (sample y d c) = CallsGood c
-  CallsGood (branch e a b c) = CallsGood a × CallsGood b × CallsGood c
-  CallsGood (loop e v a c) = CallsGood a × CallsGood c
-  CallsGood (call xs r es c) = IsGood r × CallsGood c
-  CallsGood (ask xs o es c) = CallsGood c
+  CallsGood = EachCarried IsGood
 
   abbrev AreThere : List ProcRef → Type 0
   AreThere ps = AllByRecursion (IsIn S) ps
@@ -125,7 +129,7 @@ module _ (g : Setting) (S : List ProcRef) (G : Key → Type 0) where
   module _ (P : Key → Type 0) (same : (l : Cells) → Covers (with_frame (At G)) l → Covers (with_frame (At P)) l) (c : Context) (ls : List TypedName) where
     call_within : (p : ProcRef) → IsIn S p → (xs : List Var) (o : Option Routine) (es : List Term) (d : Program) → g.procedure p ≡ o → Covers (At P) (terms_cells g es) → CallsGood (called xs o es d) →
         (CallsGood d → ReadsWithin g (At P) d) → ReadsWithin g (At P) (called xs o es d)
-    call_within p i xs (Some r) es d e s h u = (s, same (routine_cells g r) (h.0 p i e), u h.1)
+    call_within p i xs (Some r) es d e s h u = (s, same (routine_cells g r) (h.0 p i e), u h.2)
     call_within p i xs None es d e s h u = u h
 
     row_within : {n : Count} (is : Row_of-Instr n) → AreStatements c ls is → EachNamed g.types P (row_read is) → AreThere (row_calls is) → CallsGood (program_of g is) → ReadsWithin g (At P) (program_of g is)
@@ -228,74 +232,63 @@ module _ (g : Setting) (G : Key → Type 0) where
   without_locals (var.Global m x ∷ xs) h = (h.0, without_locals xs h.1)
   without_locals (var.Glob a ∷ xs) h = (places_global (g.types.footprint (named a)) h.0, without_locals xs h.1)
 
--- a procedure that is declared, and what it reads itself
-pub record IsRead (g : Setting) (ds : Declarations) (G : Key → Type 0) (p : ProcRef) : Type 0 where
-  pub found : Proc
-  pub declared : procedure_of ds p ≡ Some found
-  pub named_there : EachNamed g.types G (read_itself found)
+module _ (g : Setting) (G : Key → Type 0) where
+  -- it is known what is read, and G has its places
+  abbrev pub AreRead : Option (List Var) → Type 0
+  AreRead None = ⊥
+  AreRead (Some xs) = EachNamed g.types G xs
+
+  read_front : (o r : Option (List Var)) → AreRead (in_front o r) → AreRead o × AreRead r
+  read_front None r h = absurd h
+  read_front (Some xs) None h = absurd h
+  read_front (Some xs) (Some ys) h = named_append g.types G xs ys h
 
 module _ (g : Setting) (ds : Declarations) (G : Key → Type 0) where
   -- what each of these procedures reads itself, where all that they read is known
-  pub read_each : (ps : List ProcRef) (xs : List Var) → read_by ds ps ≡ Some xs → EachNamed g.types G xs → (p : ProcRef) → IsIn ps p → IsRead g ds G p
-  read_each [] xs e v p i = absurd i
-  read_each (q ∷ ps) xs e v p i = by_parts (λ ys c w. read_each ps ys c w p) (procedure_of ds q) refl (read_by ds ps) refl e i
+  each_itself : (ps : List ProcRef) → AreRead g G (read_by ds ps) → (p : ProcRef) → IsIn ps p → AreRead g G (read_itself (meant_by ds p))
+  each_itself [] v p i = absurd i
+  each_itself (q ∷ ps) v p i = let z = read_front g G (read_itself (meant_by ds q)) (read_by ds ps) v in by_place z.0 (each_itself ps z.1 p) i
     where
-      by_parts : ((ys : List Var) → read_by ds ps ≡ Some ys → EachNamed g.types G ys → IsIn ps p → IsRead g ds G p) →
-          (o : Option Proc) → procedure_of ds q ≡ o → (r : Option (List Var)) → read_by ds ps ≡ r → with_read o r ≡ Some xs → IsIn (q ∷ ps) p → IsRead g ds G p
-      by_parts behind None d r c e i = absurd (none-some xs e)
-      by_parts behind (Some a) d None c e i = absurd (none-some xs e)
-      by_parts behind (Some a) d (Some ys) c e i = by_place i
-        where
-          both : EachNamed g.types G (read_itself a) × EachNamed g.types G ys
-          both = named_append g.types G (read_itself a) ys (subst (EachNamed g.types G) (sym (same_Some (read_itself a ++ ys) xs e)) v)
+      by_place : AreRead g G (read_itself (meant_by ds q)) → (IsIn ps p → AreRead g G (read_itself (meant_by ds p))) → IsIn (q ∷ ps) p → AreRead g G (read_itself (meant_by ds p))
+      by_place h behind (inl f) = subst (λ z. AreRead g G (read_itself (meant_by ds z))) f h
+      by_place h behind (inr f) = behind f
 
-          by_place : IsIn (q ∷ ps) p → IsRead g ds G p
-          by_place (inl f) = subst (IsRead g ds G) f (record { found = a; declared = d; named_there = both.0 })
-          by_place (inr f) = behind ys c both.1 f
+  pub read_each : (ps : List ProcRef) (xs : List Var) → read_by ds ps ≡ Some xs → EachNamed g.types G xs → (p : ProcRef) → IsIn ps p → AreRead g G (read_itself (meant_by ds p))
+  read_each ps xs e v = each_itself ps (subst (AreRead g G) (sym e) v)
 
--- declared procedures are typed, and those of the setting, and S are procedures of the declarations, with all that they call
-module _ (g : Setting) (ds : Declarations) (c : Context) (typed : (p : ProcRef) (a : Proc) → procedure_of ds p ≡ Some a → IsProcedure c a)
-    (linked : (p : ProcRef) (a : Proc) → procedure_of ds p ≡ Some a → g.procedure p ≡ Some (routine a.params a.locals (statements g a.body.list) a.value))
-    (S : List ProcRef) (closed : AreFollowed ds S S) (G : Key → Type 0) (there : (p : ProcRef) → IsIn S p → IsRead g ds G p) where
-  abbrev body_of : Routine → Program
-  body_of (routine ps ls d v) = d
+-- declared procedures are typed, references mean what they stand for, and S are procedures of the declarations, with all that they call
+module _ (g : Setting) (ds : Declarations) (c : Context) (typed : (p : ProcRef) (a : Proc) → procedure_of ds p ≡ Some a → IsProcedure c a) (means : (p : ProcRef) → Means g p (meant_by ds p))
+    (S : List ProcRef) (closed : AreFollowed ds S S) (G : Key → Type 0) (there : (p : ProcRef) → IsIn S p → AreRead g G (read_itself (meant_by ds p))) where
+  again : (l : Cells) → Covers (with_frame (At G)) l → Covers (with_frame (At (Framed G))) l
+  again l h x i = by_place x.key (h x i)
+    where
+      by_place : (k : Key) → InFrame k (G k) → InFrame k (InFrame k (G k))
+      by_place (global p) f = f
+      by_place (local p) f = tt
 
-  from_body : (r : Routine) → CallsGood g S G (body_of r) → IsGood g S G r
-  from_body r k p i e =
-      let d = there p i in
-      let a = d.found in
-      let is : routine a.params a.locals (statements g a.body.list) a.value ≡ r =
-      same_Some (routine a.params a.locals (statements g a.body.list) a.value) r (sym (linked p a d.declared) ∙ e) in
-      let parts = named_append g.types (Framed G) (each_read a.body.list) (variables a.value) (with_locals g G (each_read a.body.list ++ variables a.value) d.named_there) in
-      let w = typed p a d.declared in
+  by_meaning : (r : Routine) → EachCarriedBy (IsGood g S G) r → (p : ProcRef) → g.procedure p ≡ Some r → (m : Meant) → IfDeclared (IsProcedure c) m → Means g p m → AreRead g G (read_itself m) →
+      ((q : ProcRef) → IsIn (called_by m) q → IsIn S q) → Covers (with_frame (At G)) (routine_cells g r)
+  by_meaning r k p e Unknown w is v h = absurd v
+  by_meaning r k p e (Declared a) w is v h =
+      let same : routine a.params a.locals (statements g a.body.list) a.value ≡ r = same_Some (routine a.params a.locals (statements g a.body.list) a.value) r (sym is ∙ e) in
+      let parts = named_append g.types (Framed G) (each_read a.body.list) (variables a.value) (with_locals g G (each_read a.body.list ++ variables a.value) v) in
       let body : ReadsWithin g (At (Framed G)) (statements g a.body.list) =
-      statements_within g S G (Framed G) (λ l h x i. again x (h x i)) c _ a.body.list w.body.statements parts.0
-      (each_there g S G (calls a.body.list) (λ q j. closed p i q (subst (λ o. IsIn (called_by o) q) (sym d.declared) j))) (subst (λ z. CallsGood g S G (body_of z)) (sym is) k) in
-      subst (λ z. Covers (with_frame (At G)) (routine_cells g z)) is
+      statements_within g S G (Framed G) again c _ a.body.list w.body.statements parts.0 (each_there g S G (calls a.body.list) h) (subst (EachCarriedBy (IsGood g S G)) (sym same) k) in
+      subst (λ z. Covers (with_frame (At G)) (routine_cells g z)) same
       (covers_both (with_frame (At G)) (term_cells g a.value) (program_cells g (statements g a.body.list)) (term_read g (Framed G) _ a.value w.value.typed parts.1)
       (within_covers g (At G) (statements g a.body.list) body))
-    where
-      again : (x : Cell) → with_frame (At G) x → with_frame (At (Framed G)) x
-      again x h = by_place x.key h
-        where
-          by_place : (k : Key) → InFrame k (G k) → InFrame k (InFrame k (G k))
-          by_place (global p) f = f
-          by_place (local p) f = tt
+  by_meaning r k p e (Any a qs) w is v h =
+      reads_of_any g a qs p is S h (with_frame (At G)) (λ x t. tt)
+      (with_frame_covers (At G) (map global_cell (g.types.footprint (named a))) (globals_read g G (g.types.footprint (named a)) v.0)) r e k
 
-  mutual
-    all_good : (d : Program) → CallsGood g S G d
-    all_good done = tt
-    all_good (assign xs e d) = all_good d
-    all_good (sample y e d) = all_good d
-    all_good (branch e a b d) = (all_good a, all_good b, all_good d)
-    all_good (loop e v a d) = (all_good a, all_good d)
-    all_good (call xs r es d) = (routine_good r, all_good d)
-    all_good (ask xs o es d) = all_good d
+  from_carried : (r : Routine) → EachCarriedBy (IsGood g S G) r → IsGood g S G r
+  from_carried r k p i e = by_meaning r k p e (meant_by ds p) (if_declared ds p (IsProcedure c) (typed p)) (means p) (there p i) (closed p i)
 
-    pub routine_good : (r : Routine) → IsGood g S G r
-    routine_good (routine ps ls d v) = from_body (routine ps ls d v) (all_good d)
+  pub routine_good : (r : Routine) → IsGood g S G r
+  routine_good = each_procedure (IsGood g S G) from_carried
 
   -- statements read what they and those procedures are found to read
   pub read_within : (ls : List TypedName) (is : List Instr) → EachStatement c ls is → ((q : ProcRef) → IsIn (calls is) q → IsIn S q) → EachNamed g.types G (each_read is) →
       ReadsWithin g (At G) (statements g is)
-  read_within ls is w i v = statements_within g S G G (λ l h. h) c ls is w v (each_there g S G (calls is) i) (all_good (statements g is))
+  read_within ls is w i v =
+      statements_within g S G G (λ l h. h) c ls is w v (each_there g S G (calls is) i) (each_carried (IsGood g S G) from_carried (statements g is))

@@ -1,11 +1,10 @@
 -- `swap`: what moves runs alike.
-use Rattle.std.proofs.Common.{◌≡◌, ℕ, List, ◌++◌, drop, append_assoc, Some, ap, sym, ◌∙◌, subst}
+use Rattle.std.proofs.Common.{◌≡◌, ℕ, List, ◌++◌, drop, append_assoc, Some, ap, ◌∙◌, subst}
 use Rattle.gb_terms.specs.declared.decl.Proc.{Proc}
 use Rattle.gb_terms.specs.declared.decl.TypedName.{TypedName}
 use Rattle.gb_terms.specs.declared.module.ProcRef.{ProcRef}
 use Rattle.gb_terms.specs.declared.term.Instr.{Instr}
 use Rattle.gb_meaning.specs.Commands.{statements}
-use Rattle.gb_meaning.specs.Program.Routine.{routine}
 use Rattle.gb_meaning.specs.Setting.{Setting}
 use Rattle.gb_meaning.specs.State.{State}
 use Rattle.gb_holds.specs.Declared.{declared}
@@ -18,10 +17,15 @@ use Rattle.gb_typing.specs.Programs.{EachStatement, IsProcedure}
 use Rattle.gb_typing.specs.Rules.{IsSettingOver, IsSoundRuleIn, no_arguments}
 use Rattle.gb_typing.specs.Scopes.{context_of, IsTypedScope}
 use Rattle.gb_typing.specs.Sequents.{of_sequent, IsTypedSequent}
-use Rattle.gb_typing.proofs.LinkedProcedures.{linked_there}
 use Rattle.gb_typing.proofs.Lists.{typed_append, typed_drop, typed_take}
 use Rattle.gb_typing.proofs.Located.{typed_there}
 use Rattle.gb_parts.specs.OneBody.{OneBody}
+use Rattle.gb_mods.specs.Meant.{meant_by}
+use Rattle.gb_adversaries.specs.Means.{Means}
+use Rattle.gb_typing.specs.Forms.{IsKeptOff}
+use Rattle.gb_mods.specs.Exclusions.{exclusions}
+use Rattle.gb_adversaries.proofs.KeptOff.{kept_off}
+use Rattle.gb_adversaries.proofs.Meanings.{means_there}
 use Rattle.gb_prog.specs.Ends.{IsSoundLoopRule}
 use Rattle.gb_prog.specs.Loops.{RunAlike}
 use Rattle.gb_prog.proofs.Couplings.{alike_back, alike_between}
@@ -33,7 +37,7 @@ use Rattle.gb_trans.proofs.Known.{uncrossed_alike}
 use Rattle.gb_trans.proofs.Swapped.{in_parts, swap_ends, swapped_stands, AreApart}
 
 module _ (ds : Declarations) (c : Context) (typed : (p : ProcRef) (a : Proc) → procedure_of ds p ≡ Some a → IsProcedure c a)
-    (linked : (g : Setting) → IsSettingOver (declared ds) g → (p : ProcRef) (a : Proc) → procedure_of ds p ≡ Some a → g.procedure p ≡ Some (routine a.params a.locals (statements g a.body.list) a.value)) where
+    (means : (g : Setting) → IsSettingOver (declared ds) g → (p : ProcRef) → Means g p (meant_by ds p)) (off : (g : Setting) → IsSettingOver (declared ds) g → IsKeptOff (exclusions ds) g) where
   -- a body in the place of which another one may stand
   record MayStand (is js : List Instr) : Type 0 where
     are : (ls : List TypedName) → EachStatement c ls is → EachStatement c ls js
@@ -58,7 +62,7 @@ module _ (ds : Declarations) (c : Context) (typed : (p : ProcRef) (a : Proc) →
     turned : B ++ ((M ++ F) ++ R) ≡ exchanged n f m is
     turned = ap (λ z. B ++ z) (append_assoc M F R)
 
-    exchanged_stands : AreApart (effects_of ds F) (effects_of ds M) → MayStand is (exchanged n f m is)
+    exchanged_stands : AreApart (exclusions ds) (effects_of ds F) (effects_of ds M) → MayStand is (exchanged n f m is)
     exchanged_stands k = record {
       are = λ ls w.
           typed_append c ls B (M ++ (F ++ R)) (typed_take c ls n is w)
@@ -68,7 +72,7 @@ module _ (ds : Declarations) (c : Context) (typed : (p : ProcRef) (a : Proc) →
           (subst (λ z. RunAlike g s (statements g (B ++ ((M ++ F) ++ R))) (statements g z)) together
           (alike_between g s B (M ++ F) (F ++ M) R
           (alike_back g s (statements g (F ++ M)) (statements g (M ++ F))
-          (uncrossed_alike g ds c typed (linked g over) ls F M (of_first ls w) (of_second ls w) k.one k.other k.is_one k.is_other k.uncrossed s))));
+          (uncrossed_alike g ds c typed (means g over) (exclusions ds) (off g over) ls F M (of_first ls w) (of_second ls w) k.one k.other k.is_one k.is_other k.uncrossed s))));
     }
       where
         of_first : (ls : List TypedName) → EachStatement c ls is → EachStatement c ls F
@@ -92,13 +96,8 @@ module _ (ds : Declarations) (scoped : IsTypedScope (declared ds)) (t : Sequent)
   abbrev c : Context
   c = of_sequent (context_of (declared ds)) t typed.frames
 
-  linked : (g : Setting) → IsSettingOver (declared ds) g → (r : ProcRef) (p : Proc) → procedure_of ds r ≡ Some p → g.procedure r ≡ Some (routine p.params p.locals (statements g p.body.list) p.value)
-  linked g over r p e =
-      subst (λ h. h.procedure r ≡ Some (routine p.params p.locals (statements h p.body.list) p.value)) (sym over.meant)
-      (linked_there ds scoped over.interpretation over.chosen r p e)
-
   alike : IsAlike (declared ds) c Nothing (λ (o : OneBody). swapped ds w o.list)
-  alike = swapped_alike ds c (λ r p e. (typed_there ds scoped t typed.modules typed.frames r p e).typed) linked w
+  alike = swapped_alike ds c (λ r p e. (typed_there ds scoped t typed.modules typed.frames r p e).typed) (means_there ds scoped) (kept_off ds scoped) w
 
   pub sound : IsSoundRuleIn (declared ds) c (swap_row ds a w) no_arguments
   sound = transformed_always (declared ds) c (λ (o : OneBody). swapped ds w o.list) alike a

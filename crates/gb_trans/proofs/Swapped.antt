@@ -9,6 +9,8 @@ use Rattle.gb_goal.specs.Answers.{Answer, ◌>>=◌}
 use Rattle.gb_goal.specs.Answers.Answer.{given, refused}
 use Rattle.gb_goal.specs.Rows.{refusing}
 use Rattle.gb_goal.specs.Scope.{Declarations}
+use Rattle.gb_walk.specs.Clash.{Exclusions}
+use Rattle.gb_mods.specs.Exclusions.{exclusions}
 use Rattle.gb_steps.specs.declared.step.Passing.{Passing}
 use Rattle.gb_typing.proofs.Given.{same_given}
 use Rattle.gb_prog.proofs.Own.{Good, good_append}
@@ -17,19 +19,19 @@ use Rattle.gb_trans.specs.Effects.{crossing, effects_of}
 use Rattle.gb_trans.specs.Swap.{apart, before, exchange, exchanged, first, moved, rest, second, swapped, unless_crossing}
 
 -- nothing crosses where an answer is given
-pub record AreApart (o r : Option Effects) : Type 0 where
+pub record AreApart (es : Exclusions) (o r : Option Effects) : Type 0 where
   pub one : Effects
   pub other : Effects
   pub is_one : o ≡ Some one
   pub is_other : r ≡ Some other
-  pub uncrossed : crossing one other ≡ None
+  pub uncrossed : crossing es one other ≡ None
 
-apart_given : (o r : Option Effects) (u : Unit {0}) → apart o r ≡ given u → AreApart o r
-apart_given None r u e = cc
-apart_given (Some a) None u e = cc
-apart_given (Some a) (Some b) u e = by_crossing (crossing a b) refl e
+apart_given : (es : Exclusions) (o r : Option Effects) (u : Unit {0}) → apart es o r ≡ given u → AreApart es o r
+apart_given es None r u e = cc
+apart_given es (Some a) None u e = cc
+apart_given es (Some a) (Some b) u e = by_crossing (crossing es a b) refl e
   where
-    by_crossing : (x : Option Var) → crossing a b ≡ x → unless_crossing x ≡ given u → AreApart (Some a) (Some b)
+    by_crossing : (x : Option Var) → crossing es a b ≡ x → unless_crossing x ≡ given u → AreApart es (Some a) (Some b)
     by_crossing None d e = record { one = a; other = b; is_one = refl; is_other = refl; uncrossed = d }
     by_crossing (Some x) d e = cc
 
@@ -38,14 +40,14 @@ pub in_parts : (n f m : ℕ) (is : List Instr) → before n is ++ (first n f is 
 in_parts n f m is = ap (λ z. before n is ++ z) (ap (λ z. first n f is ++ z) (take-append-drop m (drop f (drop n is))) ∙ take-append-drop f (drop n is)) ∙ take-append-drop n is
 
 module _ (ds : Declarations) (P : List Instr → List Instr → Type 0)
-    (exchanges : (n f m : ℕ) (is : List Instr) → AreApart (effects_of ds (first n f is)) (effects_of ds (second n f m is)) → P is (exchanged n f m is)) where
+    (exchanges : (n f m : ℕ) (is : List Instr) → AreApart (exclusions ds) (effects_of ds (first n f is)) (effects_of ds (second n f m is)) → P is (exchanged n f m is)) where
   exchange_stands : (n f m : ℕ) (is js : List Instr) → exchange ds n f m is ≡ given js → P is js
-  exchange_stands n f m is js e = by_apart (apart (effects_of ds (first n f is)) (effects_of ds (second n f m is))) refl e
+  exchange_stands n f m is js e = by_apart (apart (exclusions ds) (effects_of ds (first n f is)) (effects_of ds (second n f m is))) refl e
     where
-      by_apart : (r : Answer (Unit {0})) → apart (effects_of ds (first n f is)) (effects_of ds (second n f m is)) ≡ r → (r >>= λ u. given (exchanged n f m is)) ≡ given js → P is js
+      by_apart : (r : Answer (Unit {0})) → apart (exclusions ds) (effects_of ds (first n f is)) (effects_of ds (second n f m is)) ≡ r → (r >>= λ u. given (exchanged n f m is)) ≡ given js → P is js
       by_apart (refused w p) d e = cc
       by_apart (given u) d e =
-          subst (P is) (same_given (exchanged n f m is) js e) (exchanges n f m is (apart_given (effects_of ds (first n f is)) (effects_of ds (second n f m is)) u d))
+          subst (P is) (same_given (exchanged n f m is) js e) (exchanges n f m is (apart_given (exclusions ds) (effects_of ds (first n f is)) (effects_of ds (second n f m is)) u d))
 
   moved_stands : (w : Passing) (is js : List Instr) → moved ds w is ≡ given js → P is js
   moved_stands w is js e = by_way w.front e

@@ -1,5 +1,5 @@
 -- Before and after `swap` a body runs alike.
-use Rattle.std.proofs.Common.{◌≡◌, ℕ, ◌*◌, Bool, List, ◌++◌, drop, append_assoc, Some, ap, sym, ◌∙◌, subst}
+use Rattle.std.proofs.Common.{◌≡◌, ℕ, ◌*◌, Bool, List, ◌++◌, drop, append_assoc, Some, ap, ◌∙◌, subst}
 use Rattle.gb_coupling.specs.WeightedList.{bit, weight}
 use Rattle.gb_terms.specs.declared.decl.Proc.{Proc}
 use Rattle.gb_terms.specs.declared.decl.TypedName.{TypedName}
@@ -7,7 +7,6 @@ use Rattle.gb_terms.specs.declared.module.ProcRef.{ProcRef}
 use Rattle.gb_terms.specs.declared.term.Instr.{Instr}
 use Rattle.gb_meaning.specs.Commands.{statements}
 use Rattle.gb_meaning.specs.Memory.{Memory}
-use Rattle.gb_meaning.specs.Program.Routine.{routine}
 use Rattle.gb_meaning.specs.Setting.{Setting}
 use Rattle.gb_meaning.specs.State.{State}
 use Rattle.gb_holds.specs.Declared.{declared}
@@ -21,9 +20,14 @@ use Rattle.gb_typing.specs.Programs.{EachStatement, IsBody, IsProcedure}
 use Rattle.gb_typing.specs.Rules.{IsSettingOver}
 use Rattle.gb_typing.specs.Scopes.{context_of, IsTypedScope}
 use Rattle.gb_typing.specs.Sequents.{of_sequent, IsTypedSequent}
-use Rattle.gb_typing.proofs.LinkedProcedures.{linked_there}
 use Rattle.gb_typing.proofs.Lists.{typed_drop, typed_take}
 use Rattle.gb_typing.proofs.Located.{typed_there}
+use Rattle.gb_mods.specs.Meant.{meant_by}
+use Rattle.gb_adversaries.specs.Means.{Means}
+use Rattle.gb_typing.specs.Forms.{IsKeptOff}
+use Rattle.gb_mods.specs.Exclusions.{exclusions}
+use Rattle.gb_adversaries.proofs.KeptOff.{kept_off}
+use Rattle.gb_adversaries.proofs.Meanings.{means_there}
 use Rattle.gb_prog.specs.Loops.{RunAlike}
 use Rattle.gb_prog.proofs.Couplings.{alike_back, alike_between}
 use Rattle.gb_trans.specs.Effects.{effects_of}
@@ -32,12 +36,12 @@ use Rattle.gb_trans.proofs.Known.{uncrossed_alike}
 use Rattle.gb_trans.proofs.Swapped.{in_parts, swapped_stands, AreApart}
 
 module _ (ds : Declarations) (c : Context) (g : Setting) (typed : (p : ProcRef) (a : Proc) → procedure_of ds p ≡ Some a → IsProcedure c a)
-    (linked : (p : ProcRef) (a : Proc) → procedure_of ds p ≡ Some a → g.procedure p ≡ Some (routine a.params a.locals (statements g a.body.list) a.value)) (ls : List TypedName) where
+    (means : (p : ProcRef) → Means g p (meant_by ds p)) (off : IsKeptOff (exclusions ds) g) (ls : List TypedName) where
   -- typed statements that run as others do
   abbrev AreAlike : List Instr → List Instr → Type 0
   AreAlike is js = EachStatement c ls is → (s : State) → RunAlike g s (statements g js) (statements g is)
 
-  exchanged_alike : (n f m : ℕ) (is : List Instr) → AreApart (effects_of ds (first n f is)) (effects_of ds (second n f m is)) → AreAlike is (exchanged n f m is)
+  exchanged_alike : (n f m : ℕ) (is : List Instr) → AreApart (exclusions ds) (effects_of ds (first n f is)) (effects_of ds (second n f m is)) → AreAlike is (exchanged n f m is)
   exchanged_alike n f m is k w s =
       let B = before n is in
       let F = first n f is in
@@ -49,7 +53,7 @@ module _ (ds : Declarations) (c : Context) (g : Setting) (typed : (p : ProcRef) 
       subst (λ z. z) (λ i. RunAlike g s (statements g (turned i)) (statements g (together i)))
       (alike_between g s B (M ++ F) (F ++ M) R
       (alike_back g s (statements g (F ++ M)) (statements g (M ++ F))
-      (uncrossed_alike g ds c typed linked ls F M (typed_take c ls f (drop n is) x) (typed_take c ls m (drop f (drop n is)) (typed_drop c ls f (drop n is) x)) k.one k.other k.is_one k.is_other k.uncrossed s)))
+      (uncrossed_alike g ds c typed means (exclusions ds) off ls F M (typed_take c ls f (drop n is) x) (typed_take c ls m (drop f (drop n is)) (typed_drop c ls f (drop n is) x)) k.one k.other k.is_one k.is_other k.uncrossed s)))
 
   swapped_alike : (w : Passing) (is js : List Instr) → swapped ds w is ≡ given js → AreAlike is js
   swapped_alike = swapped_stands ds AreAlike exchanged_alike
@@ -58,9 +62,4 @@ pub same_events : (ds : Declarations) → IsTypedScope (declared ds) → (q : Se
     (w : Passing) (is js : List Instr) → swapped ds w is ≡ given js → (ls : List TypedName) → IsBody (of_sequent (context_of (declared ds)) q t.frames) ls is →
     (s : State) (m : Memory) (event : Memory → Bool) → weight (run g s js m) event * denominator g is ≡ weight (run g s is m) event * denominator g js
 same_events ds scoped q t g over w is js e ls b s m event =
-    swapped_alike ds (of_sequent (context_of (declared ds)) q t.frames) g (λ r p e. (typed_there ds scoped q t.modules t.frames r p e).typed) linked ls w is js e b.statements s m (λ n. bit (event n))
-  where
-    linked : (r : ProcRef) (p : Proc) → procedure_of ds r ≡ Some p → g.procedure r ≡ Some (routine p.params p.locals (statements g p.body.list) p.value)
-    linked r p e =
-        subst (λ h. h.procedure r ≡ Some (routine p.params p.locals (statements h p.body.list) p.value)) (sym over.meant)
-        (linked_there ds scoped over.interpretation over.chosen r p e)
+    swapped_alike ds (of_sequent (context_of (declared ds)) q t.frames) g (λ r p e. (typed_there ds scoped q t.modules t.frames r p e).typed) (means_there ds scoped g over) (kept_off ds scoped g over) ls w is js e b.statements s m (λ n. bit (event n))

@@ -4,7 +4,7 @@ use Rattle.std.specs.List.{filter, list_any}
 use Rattle.gb_core.specs.declared.var.Var.{Var}
 use Rattle.gb_terms.specs.declared.module.ProcRef.{ProcRef}
 use Rattle.gb_terms.specs.declared.term.Instr.{Instr}
-use Rattle.gb_walk.specs.Clash.{clashes, least, least_from}
+use Rattle.gb_walk.specs.Clash.{Exclusions, clashes, least, least_from}
 use Rattle.gb_goal.specs.Scope.{Declarations}
 use Rattle.gb_mods.specs.Called.{all_reached, calls}
 use Rattle.gb_premises.specs.Effects.{effects_by}
@@ -15,14 +15,14 @@ effects_if ds is None = None
 effects_if ds is (Some ps) = effects_by ds is ps
 
 -- The variables that statements write, and those that they read or write, through every procedure that they call. They aren't known
--- where one of these isn't declared by its name.
+-- where it isn't known what one of these stands for.
 unfoldable pub effects_of : Declarations → List Instr → Option Effects
 effects_of ds is = effects_if ds is (all_reached ds (calls is))
 
 -- one of these variables clashes with x
-abbrev pub meets : List Var → Var → Bool
-meets ys x = list_any (λ y. clashes x y) ys
+abbrev pub meets : Exclusions → List Var → Var → Bool
+meets es ys x = list_any (λ y. clashes es x y) ys
 
 -- the least variable that one of two parts writes and with which another one clashes that the other part reads or writes
-abbrev pub crossing : Effects → Effects → Option Var
-crossing a b = least_from (least (filter (meets b.touched) a.written)) (filter (meets a.touched) b.written)
+abbrev pub crossing : Exclusions → Effects → Effects → Option Var
+crossing es a b = least_from (least (filter (meets es b.touched) a.written)) (filter (meets es a.touched) b.written)

@@ -13,6 +13,8 @@ use Rattle.gb_premises.specs.declared.effects.Effects.{Effects}
 use Rattle.gb_steps.specs.declared.step.Passing.{Passing}
 use Rattle.gb_trans.specs.Effects.{crossing, effects_of}
 use Rattle.gb_trans.specs.Transformed.{transforming}
+use Rattle.gb_mods.specs.Exclusions.{exclusions}
+use Rattle.gb_walk.specs.Clash.{Exclusions}
 
 -- what stands before so many statements of a body, so many that follow, and what stands behind them
 abbrev pub before : ℕ → List Instr → List Instr
@@ -37,14 +39,14 @@ unless_crossing None = given tt
 unless_crossing (Some x) = refusing (SideCondition x)
 
 -- neither of two parts touches what the other writes
-abbrev pub apart : Option Effects → Option Effects → Answer (Unit {0})
-apart (Some a) (Some b) = unless_crossing (crossing a b)
-apart _ _ = refusing Shape
+abbrev pub apart : Exclusions → Option Effects → Option Effects → Answer (Unit {0})
+apart es (Some a) (Some b) = unless_crossing (crossing es a b)
+apart es _ _ = refusing Shape
 
 -- two parts exchange their places
 abbrev pub exchange : Declarations → ℕ → ℕ → ℕ → List Instr → Answer (List Instr)
 exchange ds n f s is = do
-  _ ← apart (effects_of ds (first n f is)) (effects_of ds (second n f s is))
+  _ ← apart (exclusions ds) (effects_of ds (first n f is)) (effects_of ds (second n f s is))
   given (exchanged n f s is)
 
 -- the statement at a place, of which the first is 1, moves so many places to the front or to the back

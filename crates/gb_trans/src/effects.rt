@@ -11,12 +11,12 @@ use gb_goal::scope::Scope;
 use gb_mods::called::{all_reached, calls};
 use gb_premises::effects::{Effects, effects_by};
 use gb_terms::term::Instr;
-use gb_walk::clash::{clashes, lesser};
+use gb_walk::clash::{Excluded, clashes, lesser};
 use sqlite_items::Items;
 use std::alloc::{AllocError, Global};
 
-/// What statements write, and what they read or write, through every procedure that they call. None where one of these isn't declared
-/// by its name.
+/// What statements write, and what they read or write, through every procedure that they call. None where it isn't known what one of
+/// these stands for.
 #[tactic(auto, unfolding(crate::specs::Effects::effects_of))]
 pub fn effects_of(
     alloc: Global,
@@ -33,11 +33,11 @@ pub fn effects_of(
 }
 
 /// Whether one of these variables clashes with another one.
-fn meets(list: &[Var], x: &Var) -> bool
-    ensures { result ≡ meets list.now x.now }
+fn meets(exclusions: &[Excluded], list: &[Var], x: &Var) -> bool
+    ensures { result ≡ meets exclusions.now list.now x.now }
 {
     for y in list {
-        if clashes(x, y) {
+        if clashes(exclusions, x, y) {
             return true;
         }
     }
@@ -45,12 +45,17 @@ fn meets(list: &[Var], x: &Var) -> bool
 }
 
 /// The least of what was found and of the variables of the first list with which one of the second list clashes.
-pub fn least_met<'a>(found: Option<&'a Var>, list: &'a [Var], others: &[Var]) -> Option<&'a Var>
-    ensures { option_copied result ≡ least_from (option_copied found.entry) (filter (meets others.now) list.now) }
+pub fn least_met<'a>(
+    found: Option<&'a Var>,
+    exclusions: &[Excluded],
+    list: &'a [Var],
+    others: &[Var],
+) -> Option<&'a Var>
+    ensures { option_copied result ≡ least_from (option_copied found.entry) (filter (meets exclusions.now others.now) list.now) }
 {
     let mut least = found;
     for x in list {
-        if meets(others, x) {
+        if meets(exclusions, others, x) {
             least = lesser(least, x);
         }
     }
@@ -58,9 +63,23 @@ pub fn least_met<'a>(found: Option<&'a Var>, list: &'a [Var], others: &[Var]) ->
 }
 
 /// The least variable that one of two parts writes and with which another one clashes that the other part reads or writes.
-pub fn crossing<'a>(first: &'a Effects, second: &'a Effects) -> Option<&'a Var>
-    ensures { option_copied result ≡ crossing first.now second.now }
+pub fn crossing<'a>(
+    exclusions: &[Excluded],
+    first: &'a Effects,
+    second: &'a Effects,
+) -> Option<&'a Var>
+    ensures { option_copied result ≡ crossing exclusions.now first.now second.now }
 {
-    let found = least_met(None, first.written.as_slice(), second.touched.as_slice());
-    least_met(found, second.written.as_slice(), first.touched.as_slice())
+    let found = least_met(
+        None,
+        exclusions,
+        first.written.as_slice(),
+        second.touched.as_slice(),
+    );
+    least_met(
+        found,
+        exclusions,
+        second.written.as_slice(),
+        first.touched.as_slice(),
+    )
 }

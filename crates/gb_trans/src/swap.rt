@@ -11,6 +11,7 @@ ghost use Rattle.gb_steps.specs.declared.step.Passing.{Passing as Passed};
 ghost use Rattle.gb_typing.specs.Rules.{IsSoundRuleIn, no_arguments};
 ghost use Rattle.gb_typing.specs.Scopes.{context_of, IsTypedScope};
 ghost use Rattle.gb_typing.specs.Sequents.{of_sequent, IsTypedSequent};
+ghost use Rattle.gb_mods.specs.Exclusions as excluding;
 ghost use Rattle.gb_trans.specs.Effects as effect;
 ghost use Rattle.gb_trans.specs.Swap.{apart, exchange, moved, swap_row, swapped};
 
@@ -21,6 +22,7 @@ use gb_core::refusal::{Refused, Why};
 use gb_goal::goal::goal_of;
 use gb_goal::scope::Scope;
 use gb_goal::sequent::{Sequent, Sequents};
+use gb_mods::exclusions::exclusions;
 use gb_parts::one_body::one_body;
 use gb_parts::subgoals::{no_shape, refusal};
 use gb_steps::step::{Acts, Passing};
@@ -63,7 +65,7 @@ fn check_apart(
     first: &[Instr],
     second: &[Instr],
 ) -> Result<(), Refused>
-    ensures { Answers (apart (effect.effects_of scope.now first.now) (effect.effects_of scope.now second.now)) result }
+    ensures { Answers (apart (excluding.exclusions scope.now) (effect.effects_of scope.now first.now) (effect.effects_of scope.now second.now)) result }
 {
     let Some(one) = effects_of(alloc, scope, first)? else {
         return Err(no_shape());
@@ -71,7 +73,8 @@ fn check_apart(
     let Some(other) = effects_of(alloc, scope, second)? else {
         return Err(no_shape());
     };
-    match crossing(&one, &other) {
+    let excluded = exclusions(alloc, scope)?;
+    match crossing(excluded.as_slice(), &one, &other) {
         Some(x) => Err(refusal(Why::SideCondition(copy_var(alloc, x)?))),
         None => Ok(()),
     }

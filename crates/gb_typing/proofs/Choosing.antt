@@ -16,13 +16,14 @@ use Rattle.gb_holds.specs.Settings.{Chosen, Table, Interpretation, interpreted, 
 use Rattle.gb_holds.specs.Holds.{EachProgram, declared_modules}
 use Rattle.gb_holds.specs.Within.{IsWithin}
 use Rattle.gb_typing.specs.Naming.{NoName, OperatorsName}
+use Rattle.gb_typing.proofs.KeptApart.{AreOther, apart_more, off_apart}
 use Rattle.gb_typing.proofs.OperatorsAlike.{operators-agree}
 use Rattle.gb_typing.proofs.PlainGlobals.{EachPlain}
 use Rattle.gb_typing.proofs.TypedAlike.{SameBasis}
-use Rattle.gb_typing.proofs.WithinAlike.{program-alike}
+use Rattle.gb_typing.proofs.WithinAlike.{program-alike, full-alike}
 use Rattle.gb_typing.specs.Modules.{Interface, functor_type, of_functor_type, with_interface}
 use Rattle.gb_typing.specs.Context.{Context}
-use Rattle.gb_typing.specs.Formulas.{IsKnown, IsBinder, with_module}
+use Rattle.gb_typing.specs.Formulas.{AreModules, IsKnown, IsBinder, with_module}
 use Rattle.gb_typing.specs.Sequents.{AreBinders}
 use Rattle.gb_typing.specs.Scopes.{interface_with, procedure_types, with_declared, with_each, is_declared, AreTypedAfter}
 use Rattle.gb_typing.specs.Chosen.{chosen_under, IsChosenIf, AreChosen, AreUnchosen}
@@ -43,21 +44,31 @@ module _ (ds : Declarations) (apart : OperatorsName NoName AnyName ds) (w : Worl
       (record { sizes = refl; footprints = λ m e. none_named m _ e; operators = λ n e. (refl, refl); procedures = λ p e. refl }) ds apart in
       record { sizes = a.sizes; footprints = λ m e. none_named m _ e; operators = a.operators; procedures = λ p e. none_named p.«module» _ e }
 
-  moved_program : (cs es : List Chosen) (b : Bind) (o p : Option Chosen) → p ≡ o → IsChosenIf ds (setting ds (with_chosen cs)) w b o → IsChosenIf ds (setting ds (with_chosen es)) w b p
-  moved_program cs es b None p e k = absurd k
-  moved_program cs es b (Some x) p e k =
-      subst (IsChosenIf ds (setting ds (with_chosen es)) w b) (sym e)
-      (k.0, record { program = program-alike (setting ds (with_chosen cs)) (setting ds (with_chosen es)) (same_basis cs es) w plain ds (type_named ds b.ty) x.program k.1.program; named = k.1.named })
+  moved_program : (cs : List Chosen) (c : Chosen) (b : Bind) → AreOther b.minus c.bind.name → (o p : Option Chosen) → p ≡ o → IsChosenIf ds cs (setting ds (with_chosen cs)) w b o →
+      IsChosenIf ds (c ∷ cs) (setting ds (with_chosen (c ∷ cs))) w b p
+  moved_program cs c b f None p e k = absurd k
+  moved_program cs c b f (Some x) p e k =
+      let g = setting ds (with_chosen cs) in
+      let h = setting ds (with_chosen (c ∷ cs)) in
+      subst (IsChosenIf ds (c ∷ cs) h w b) (sym e) (
+        k.0,
+        record {
+          program = program-alike g h (same_basis cs (c ∷ cs)) w plain ds (type_named ds b.ty) x.program k.1.program;
+          named = k.1.named;
+          full = full-alike g h (same_basis cs (c ∷ cs)) w plain ds (type_named ds b.ty) x.program k.1.program k.1.full;
+        },
+        apart_more ds cs c x.program.footprint b.minus f k.2,
+      )
 
-  -- each of these binders has another name
+  -- each of these binders has another name, and so has each module of its restriction
   abbrev Apart : List Bind → Name → Type 0
   Apart [] n = Unit {0}
-  Apart (b ∷ bs) n = (bytes_eq b.name n ≡ false) × Apart bs n
+  Apart (b ∷ bs) n = ((bytes_eq b.name n ≡ false) × AreOther b.minus n) × Apart bs n
 
   stay_chosen : (cs : List Chosen) (x : Chosen) (bs : List Bind) → Apart bs x.bind.name → AreChosen ds (with_chosen cs) bs → AreChosen ds (with_chosen (x ∷ cs)) bs
   stay_chosen cs x [] p k = tt
   stay_chosen cs x (b ∷ bs) p k =
-      (moved_program cs (x ∷ cs) b (chosen_under cs b.name) (chosen_under (x ∷ cs) b.name) (ap (λ z. if z then Some x else chosen_under cs b.name) p.0) k.0, stay_chosen cs x bs p.1 k.1)
+      (moved_program cs x b p.0.1 (chosen_under cs b.name) (chosen_under (x ∷ cs) b.name) (ap (λ z. if z then Some x else chosen_under cs b.name) p.0.0) k.0, stay_chosen cs x bs p.1 k.1)
 
   both_chosen : (i : Interpretation) (bs cs : List Bind) → AreChosen ds i bs → AreChosen ds i cs → AreChosen ds i (bs ++ cs)
   both_chosen i [] cs k l = l
@@ -68,8 +79,12 @@ module _ (ds : Declarations) (apart : OperatorsName NoName AnyName ds) (w : Worl
       AreChosen ds (with_program (with_chosen cs) b a) (bs ++ b ∷ [])
   more_chosen cs b a bs p k v =
       both_chosen (with_program (with_chosen cs) b a) bs (b ∷ []) (stay_chosen cs (record { bind = b; program = a }) bs p k) (
-        subst (IsChosenIf ds (setting ds (with_program (with_chosen cs) b a)) w b) (sym (ap (λ z. if z then Some (record { bind = b; program = a }) else chosen_under cs b.name) ((bytes_eq-Decides b.name b.name).1 refl)))
-            (refl, record { program = v.program; named = v.named }),
+        subst (IsChosenIf ds (record { bind = b; program = a } ∷ cs) (setting ds (with_program (with_chosen cs) b a)) w b)
+            (sym (ap (λ z. if z then Some (record { bind = b; program = a }) else chosen_under cs b.name) ((bytes_eq-Decides b.name b.name).1 refl))) (
+              refl,
+              record { program = v.program; named = v.named; full = v.full },
+              off_apart ds (with_program (with_chosen cs) b a) a.footprint (let y = v.program in y.known) b.minus v.apart,
+            ),
         tt,
       )
 
@@ -82,28 +97,36 @@ module _ (ds : Declarations) (apart : OperatorsName NoName AnyName ds) (w : Worl
       step false h = refl
       step true h = absurd (subst IsKnown (ap c.modules.interfaces ((bytes_eq-Decides n k).0 h) ∙ e) y)
 
+  all_other : (c : Context) (ms : List Name) (n : Name) → AreModules c.modules ms → c.modules.interfaces n ≡ None → AreOther ms n
+  all_other c [] n k e = tt
+  all_other c (m ∷ ms) n k e = (known_other c m n k.0 e, all_other c ms n k.1 e)
+
   abbrev AllKnown : Context → List Bind → Type 0
   AllKnown c [] = Unit {0}
-  AllKnown c (b ∷ bs) = IsKnown (c.modules.interfaces b.name) × AllKnown c bs
+  AllKnown c (b ∷ bs) = (IsKnown (c.modules.interfaces b.name) × AreModules c.modules b.minus) × AllKnown c bs
 
   all_apart : (c : Context) (bs : List Bind) (n : Name) → AllKnown c bs → c.modules.interfaces n ≡ None → Apart bs n
   all_apart c [] n k e = tt
-  all_apart c (b ∷ bs) n k e = (known_other c b.name n k.0 e, all_apart c bs n k.1 e)
+  all_apart c (b ∷ bs) n k e = ((known_other c b.name n k.0.0 e, all_other c b.minus n k.0.1 e), all_apart c bs n k.1 e)
 
   known_if : (b : Bool) (i : Interface) (o : Option Interface) → IsKnown o → IsKnown (if b then Some i else o)
   known_if true i o k = tt
   known_if false i o k = k
 
+  names_with : (c : Context) (k : Name) (i : Interface) (ms : List Name) → AreModules c.modules ms → AreModules (with_interface c.modules k (Some i)) ms
+  names_with c k i [] w = tt
+  names_with c k i (m ∷ ms) w = (known_if (bytes_eq m k) i (c.modules.interfaces m) w.0, names_with c k i ms w.1)
+
   stay_known : (c : Context) (b : Bind) (bs : List Bind) → AllKnown c bs → AllKnown (with_module c b) bs
   stay_known c b [] k = tt
-  stay_known c b (d ∷ bs) k = (known_if (bytes_eq d.name b.name) _ (c.modules.interfaces d.name) k.0, stay_known c b bs k.1)
+  stay_known c b (d ∷ bs) k = ((known_if (bytes_eq d.name b.name) _ (c.modules.interfaces d.name) k.0.0, names_with c b.name _ d.minus k.0.1), stay_known c b bs k.1)
 
   both_known : (c : Context) (bs cs : List Bind) → AllKnown c bs → AllKnown c cs → AllKnown c (bs ++ cs)
   both_known c [] cs k l = l
   both_known c (b ∷ bs) cs k l = (k.0, both_known c bs cs k.1 l)
 
-  last_known : (c : Context) (b : Bind) → IsKnown ((with_module c b).modules.interfaces b.name)
-  last_known c b = subst IsKnown (sym (ap (λ z. if z then Some (of_functor_type (functor_type c.modules.types (c.modules.types b.ty))) else c.modules.interfaces b.name) ((bytes_eq-Decides b.name b.name).1 refl))) tt
+  last_known : (c : Context) (b : Bind) → AreModules c.modules b.minus → AllKnown (with_module c b) (b ∷ [])
+  last_known c b m = ((subst IsKnown (sym (ap (λ z. if z then Some (of_functor_type (functor_type c.modules.types (c.modules.types b.ty))) else c.modules.interfaces b.name) ((bytes_eq-Decides b.name b.name).1 refl))) tt, names_with c b.name _ b.minus m), tt)
 
   -- the declared modules among these are in the context
   abbrev ModulesKnown : Context → Declarations → Type 0
@@ -144,7 +167,7 @@ module _ (ds : Declarations) (apart : OperatorsName NoName AnyName ds) (w : Worl
       (Q : Interpretation → Type 0) → ((es : List Chosen) → AreChosen ds (with_chosen es) (done ++ bs) → AreUnchosen es ds → Q (with_chosen es)) → EachProgram ds bs (with_chosen cs) Q
   goal_programs [] c v done k m cs h u Q f = f cs (subst (AreChosen ds (with_chosen cs)) (sym (append-nil done)) h) u
   goal_programs (b ∷ bs) c v done k m cs h u Q f = λ a within.
-      goal_programs bs (with_module c b) v.1 (done ++ b ∷ []) (both_known (with_module c b) done (b ∷ []) (stay_known c b done k) (last_known c b, tt)) (modules_stay c b ds m)
+      goal_programs bs (with_module c b) v.1 (done ++ b ∷ []) (both_known (with_module c b) done (b ∷ []) (stay_known c b done k) (last_known c b (let x = v.0 in x.minus))) (modules_stay c b ds m)
       (record { bind = b; program = a } ∷ cs) (more_chosen cs b a done (all_apart c done b.name k (let x = v.0 in x.free)) h within)
       (stay_unchosen c cs (record { bind = b; program = a }) (let x = v.0 in x.free) ds m u) Q
       (λ es y z. f es (subst (AreChosen ds (with_chosen es)) (append_assoc done (b ∷ []) bs) y) z)
@@ -179,7 +202,7 @@ module _ (ds : Declarations) (apart : OperatorsName NoName AnyName ds) (w : Worl
 
   known_with : (c : Context) (k : Name) (i : Interface) (bs : List Bind) → AllKnown c bs → AllKnown (record c { modules = with_interface c.modules k (Some i) }) bs
   known_with c k i [] w = tt
-  known_with c k i (d ∷ bs) w = (known_if (bytes_eq d.name k) i (c.modules.interfaces d.name) w.0, known_with c k i bs w.1)
+  known_with c k i (d ∷ bs) w = ((known_if (bytes_eq d.name k) i (c.modules.interfaces d.name) w.0.0, names_with c k i d.minus w.0.1), known_with c k i bs w.1)
 
   modules_with : (c : Context) (k : Name) (i : Interface) (es : Declarations) → ModulesKnown c es → ModulesKnown (record c { modules = with_interface c.modules k (Some i) }) es
   modules_with c k i [] w = tt
@@ -248,7 +271,7 @@ module _ (ds : Declarations) (apart : OperatorsName NoName AnyName ds) (w : Worl
   new_binder : (c : Context) (before : Declarations) (n : Name) (b : Bind) (done : List Bind) (cs : List Chosen) → Gone c before done cs → b.name ≡ n → IsBinder c b → (a : Adversary) →
       IsWithin ds (with_program (with_chosen cs) b a) b a → Gone (with_module c b) (before ++ (n, abstract_module b) ∷ []) (done ++ b ∷ []) (record { bind = b; program = a } ∷ cs)
   new_binder c before n b done cs x e w a v = record {
-    known = both_known (with_module c b) done (b ∷ []) (stay_known c b done x.known) (last_known c b, tt);
+    known = both_known (with_module c b) done (b ∷ []) (stay_known c b done x.known) (last_known c b w.minus);
     modules = modules_both (with_module c b) before ((n, abstract_module b) ∷ []) (modules_stay c b before x.modules) tt;
     free = λ k h. ap (λ z. if z then Some (record { bind = b; program = a }) else chosen_under cs k) (ap (bytes_eq k) e ∙ other_last before (n, abstract_module b) k h) ∙ x.free k (free_before before (n, abstract_module b) k h);
     chosen = more_chosen cs b a done (all_apart c done b.name x.known w.free) x.chosen v;
@@ -257,9 +280,13 @@ module _ (ds : Declarations) (apart : OperatorsName NoName AnyName ds) (w : Worl
   }
 
   -- what has the same modules
+  names_same : (c e : Context) → c.modules.interfaces ≡ e.modules.interfaces → (ms : List Name) → AreModules c.modules ms → AreModules e.modules ms
+  names_same c e q [] k = tt
+  names_same c e q (m ∷ ms) k = (subst (λ f. IsKnown (f m)) q k.0, names_same c e q ms k.1)
+
   known_same : (c e : Context) → c.modules.interfaces ≡ e.modules.interfaces → (bs : List Bind) → AllKnown c bs → AllKnown e bs
   known_same c e q [] k = tt
-  known_same c e q (b ∷ bs) k = (subst (λ f. IsKnown (f b.name)) q k.0, known_same c e q bs k.1)
+  known_same c e q (b ∷ bs) k = ((subst (λ f. IsKnown (f b.name)) q k.0.0, names_same c e q b.minus k.0.1), known_same c e q bs k.1)
 
   modules_same : (c e : Context) → c.modules.interfaces ≡ e.modules.interfaces → (es : Declarations) → ModulesKnown c es → ModulesKnown e es
   modules_same c e p [] w = tt

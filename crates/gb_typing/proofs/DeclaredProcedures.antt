@@ -234,7 +234,7 @@ none_behind : (n : Name) (x : Entry) (ds : scope.Declarations) → declared_modu
 none_behind n (entry.AbstractModule b) ds e = cons_nil b (declared_modules (declared ds)) e
 none_behind n _ ds e = e
 
-no_abstract : {P : Type 0} (ds : scope.Declarations) → declared_modules (declared ds) ≡ [] → (n : Name) (b : Bind) → entry_of ds n ≡ Some (entry.AbstractModule b) → P
+pub no_abstract : {P : Type 0} (ds : scope.Declarations) → declared_modules (declared ds) ≡ [] → (n : Name) (b : Bind) → entry_of ds n ≡ Some (entry.AbstractModule b) → P
 no_abstract [] none n b e = none_some (entry.AbstractModule b) e
 no_abstract {P} ((h, x) ∷ ds) none n b e = step (bytes_eq n h) (no_abstract ds (none_behind h x ds none) n b) e
   where

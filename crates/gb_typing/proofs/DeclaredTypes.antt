@@ -80,7 +80,7 @@ type_in-entry (entry.Operator o) = refl
 type_in-entry (entry.AbstractOperator o) = refl
 type_in-entry (entry.Terminating p) = refl
 
-declared_type : (ds : scope.Declarations) (n : Name) → module_type_of (declared ds) n ≡ scope.module_type_of ds n
+pub declared_type : (ds : scope.Declarations) (n : Name) → module_type_of (declared ds) n ≡ scope.module_type_of ds n
 declared_type [] n = refl
 declared_type (d ∷ ds) n = step (bytes_eq n d.0) (declared_type ds n)
   where

@@ -48,6 +48,8 @@ pub sound_given_if : (b : Bool) (w : Why) (c : Context) (G : Goal) (Hs Gs : List
 sound_given_if b w c G Hs Gs s e = subst (AreSound c G) (given_if b w Hs Gs e) s
 
 -- the same of a rule that looks at declarations
-pub sound_given_in : (ds : Declarations) (c : Context) (G : Goal) (Hs Gs : List Goal) → AllByRecursion (IsTypedGoal c) Hs × ImpliesIn ds c Hs G → given Hs ≡ given Gs →
-    AllByRecursion (IsTypedGoal c) Gs × ImpliesIn ds c Gs G
-sound_given_in ds c G Hs Gs s e = subst (λ Gs. AllByRecursion (IsTypedGoal c) Gs × ImpliesIn ds c Gs G) (same_given Hs Gs e) s
+abbrev pub AreSoundIn : Declarations → Context → Goal → List Goal → Type 0
+AreSoundIn ds c G Gs = AllByRecursion (IsTypedGoal c) Gs × ImpliesIn ds c Gs G
+
+pub sound_given_in : (ds : Declarations) (c : Context) (G : Goal) (Hs Gs : List Goal) → AreSoundIn ds c G Hs → given Hs ≡ given Gs → AreSoundIn ds c G Gs
+sound_given_in ds c G Hs Gs s e = subst (AreSoundIn ds c G) (same_given Hs Gs e) s

@@ -49,6 +49,7 @@ pub mod LinkedProcedures
 pub mod WholeReads
 pub mod ParameterTypes
 pub mod AbstractModules
+pub mod Together
 pub mod Located
 pub mod Standing
 pub mod Agreed
@@ -89,6 +90,8 @@ pub mod Settings
 pub mod Once
 pub mod Operators
 pub mod Choosing
+pub mod OwnFootprint
+pub mod KeptApart
 pub mod Variables
 pub mod Models
 pub mod Called

@@ -130,7 +130,7 @@ module _ (all : Declarations) (i : Interpretation) where
       step (Some t) e k = ap signatures_of e ∙ sym (ap (λ z. (or_none z).signatures) (a.declared p.ty t e))
 
   module _ (types : Name → Option ModuleType) (a : Agree all types) (b : Bind) where
-    of_type : (t : ModuleType) → types b.ty ≡ Some t → (x : Chosen) → chosen_under i.programs b.name ≡ Some x → IsChosenIf all g i.world b (Some x) → (ms : linked.Modules Routine) →
+    of_type : (t : ModuleType) → types b.ty ≡ Some t → (x : Chosen) → chosen_under i.programs b.name ≡ Some x → IsChosenIf all i.programs g i.world b (Some x) → (ms : linked.Modules Routine) →
         IsApplied g (Exact g) (of_functor_type (functor_type types (types b.ty))) (with_abstract_programs all i.programs ms b.name)
     of_type t e x c w ms =
         let same : type_named all b.ty ≡ t = ap or_none (a.declared b.ty t e) in
@@ -140,11 +140,11 @@ module _ (all : Declarations) (i : Interpretation) where
         (program_applied g all types t (same_params types a t.params (a.params b.ty t e)) i.world x.program
         (subst (λ z. IsProgramFor all g i.world z x.program) same w.1.program) (subst (λ z. AreNamed x.program z.signatures) same w.1.named)))
 
-    pub binder_applied : (ms : linked.Modules Routine) → IsKnown (types b.ty) → IsChosenIf all g i.world b (chosen_under i.programs b.name) →
+    pub binder_applied : (ms : linked.Modules Routine) → IsKnown (types b.ty) → IsChosenIf all i.programs g i.world b (chosen_under i.programs b.name) →
         (x : Chosen) × (chosen_under i.programs b.name ≡ Some x) × IsApplied g (Exact g) (of_functor_type (functor_type types (types b.ty))) (with_abstract_programs all i.programs ms b.name)
     binder_applied ms k w = step (types b.ty) refl k (chosen_under i.programs b.name) refl w
       where
-        step : (o : Option ModuleType) → types b.ty ≡ o → IsKnown o → (p : Option Chosen) → chosen_under i.programs b.name ≡ p → IsChosenIf all g i.world b p →
+        step : (o : Option ModuleType) → types b.ty ≡ o → IsKnown o → (p : Option Chosen) → chosen_under i.programs b.name ≡ p → IsChosenIf all i.programs g i.world b p →
             (x : Chosen) × (chosen_under i.programs b.name ≡ Some x) × IsApplied g (Exact g) (of_functor_type (functor_type types (types b.ty))) (with_abstract_programs all i.programs ms b.name)
         step None e k p c w = absurd k
         step (Some t) e k None c w = absurd w

@@ -167,11 +167,11 @@ module _ (all : Declarations) (i : Interpretation) where
         (subst (λ o. StandAlike (of_functor_type (functor_type types o)) (abstract_footprint all b.name t) (abstract_footprint all b.name t)) (sym e)
         (footprint_alike all types t (same_params all i types a t.params (a.params b.ty t e)) (s b.ty t e) b.name))
 
-    binder_alike : (ms : linked.Modules (List Var)) → IsKnown (types b.ty) → IsChosenIf all (setting all i) i.world b (chosen_under i.programs b.name) →
+    binder_alike : (ms : linked.Modules (List Var)) → IsKnown (types b.ty) → IsChosenIf all i.programs (setting all i) i.world b (chosen_under i.programs b.name) →
         StandAlike (of_functor_type (functor_type types (types b.ty))) (with_abstract_footprints all i.programs ms b.name) (with_abstract_footprints all i.programs ms b.name)
     binder_alike ms k w = step (types b.ty) refl k (chosen_under i.programs b.name) refl w
       where
-        step : (o : Option ModuleType) → types b.ty ≡ o → IsKnown o → (p : Option Chosen) → chosen_under i.programs b.name ≡ p → IsChosenIf all (setting all i) i.world b p →
+        step : (o : Option ModuleType) → types b.ty ≡ o → IsKnown o → (p : Option Chosen) → chosen_under i.programs b.name ≡ p → IsChosenIf all i.programs (setting all i) i.world b p →
             StandAlike (of_functor_type (functor_type types (types b.ty))) (with_abstract_footprints all i.programs ms b.name) (with_abstract_footprints all i.programs ms b.name)
         step None e k p c w = absurd k
         step (Some t) e k None c w = absurd w

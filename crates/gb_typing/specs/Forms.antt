@@ -2,6 +2,8 @@
 use Rattle.std.specs.Prelude.{◌≡◌, Bool, true, false, [], ◌∷◌, if◌then◌else◌}
 use Rattle.gb_core.specs.declared.ty.Ty.TheVariants.{Bool as bool_ty}
 use Rattle.gb_core.specs.declared.var.Var.{Var}
+use Rattle.gb_core.specs.declared.var.Var.TheVariants.{Glob}
+use Rattle.std.specs.List.{AllByRecursion}
 use Rattle.gb_terms.specs.declared.op.Op.TheVariants.{And, Equal, Implies, Not}
 use Rattle.gb_terms.specs.declared.op.Side.{Side}
 use Rattle.gb_terms.specs.declared.op.Side.TheVariants as side
@@ -13,7 +15,8 @@ use Rattle.gb_walk.specs.declared.change.Change.TheVariants.{ToTerm, ToSide}
 use Rattle.gb_walk.specs.Change.{Changes, term_changed}
 use Rattle.gb_walk.specs.Sides.{reads_side}
 use Rattle.gb_meaning.specs.Setting.{Setting}
-use Rattle.gb_typing.specs.Puts.{clash}
+use Rattle.gb_typing.specs.Puts.{clash, share}
+use Rattle.gb_walk.specs.Clash.{Exclusions}
 
 abbrev pub and_form : Term → Term → Term
 and_form a b = applied And (a ∷ b ∷ []) bool_ty
@@ -50,6 +53,10 @@ every r f = if reads_side f r then all_memory r f else f
 -- a form for every two memories in place of both sides
 abbrev pub every_pair : Term → Term
 every_pair f = every side.Left (every side.Right f)
+
+-- In a setting, what restrictions exclude is kept off: all globals of the module share nothing with it.
+abbrev pub IsKeptOff : Exclusions → Setting → Type 0
+IsKeptOff es g = AllByRecursion (λ e. AllByRecursion (λ x. share g (Glob e.module) x ≡ false) e.variables) es
 
 -- no variable that may be read clashes with x, but x itself
 abbrev pub IsAlone : Setting → Var → (Var → Bool) → Type 0

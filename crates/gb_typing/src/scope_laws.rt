@@ -38,8 +38,8 @@ pub fn models()
         InEachSetting ds q (IsSettingOf (of_sequent (context_of ds) q fs)) }
 {}
 
-/// In each model of a typed scope, and for all such programs, those of modules that open sections declare are programs of their types,
-/// and none hides a declared module.
+/// In each model of a typed scope, and for all such programs, those of modules that open sections declare are programs of their types
+/// that lose no weight, and none hides a declared module.
 pub fn programs()
     ensures { (ds : Declarations) → IsTypedScope ds → (q : Sequent) → AreBinders (context_of ds) q.modules →
         InEachModel ds (λ i. EachProgram ds q.modules i (IsChosenOver ds)) }

@@ -1,5 +1,7 @@
 -- The variables that a term reads, by its head and its arguments.
-use Rattle.std.proofs.Common.{◌≡◌, List, [], ◌∷◌, ◌++◌, length, take, map, get_or, ◌+◌, ◌<◌, ℕ, add-one, append-nil, append_assoc, Option, refl, ap, sym, ◌∙◌}
+use Rattle.std.proofs.Common.{◌≡◌, ◌↔◌, IsTrue, Bool, bytes_eq, List, [], ◌∷◌, ◌++◌, length, take, map, get_or, ◌+◌, ◌<◌, ℕ, add-one, append-nil, append_assoc, Option, refl, ap, sym, ◌∙◌}
+use Rattle.std.proofs.lemmas.Bool.Decides.{same_from_decides}
+use Rattle.std.proofs.lemmas.Slice.Eq.{bytes_eq-Decides}
 use Rattle.std.specs.List.{filter, take-map}
 use Rattle.std.proofs.Math.Seq.{take-suc}
 use Rattle.std.proofs.lemmas.List.{length-map}
@@ -10,7 +12,7 @@ use Rattle.gb_terms.specs.declared.op.Side.{Side}
 use Rattle.gb_terms.specs.declared.term.Term.{Term, Term', Row_of-Term, end_of-Term, more_of-Term, end_of-Head, more_of-Head, out-Term, items-the_row-Term, items_shown-the_row-Term-0, outs-Term'}
 use Rattle.gb_terms.specs.declared.term.Head.{Head}
 use Rattle.gb_terms.specs.declared.term.Head.TheBlock as B
-use Rattle.gb_walk.specs.Clash.{read_by, all_of, outside, variables_read, each_read, clashes_beside, lesser, least_from}
+use Rattle.gb_walk.specs.Clash.{Exclusions, read_by, all_of, outside, variables_read, each_read, clashes_beside, lesser, least_from}
 use Rattle.sqlite_items.specs.formers.items.Items.{the_former}
 use mathlib.Core.Former.{Count, arity, this}
 
@@ -44,20 +46,24 @@ least_append : (o : Option Var) (xs ys : List Var) → least_from o (xs ++ ys) �
 least_append o [] ys = refl
 least_append o (x ∷ xs) ys = least_append (lesser o x) xs ys
 
-pub found_before : (o : Option Var) (x : Var) (xs ys : List Var) →
-    least_from o (filter (clashes_beside x) (xs ++ ys)) ≡ least_from (least_from o (filter (clashes_beside x) xs)) (filter (clashes_beside x) ys)
-found_before o x xs ys = ap (least_from o) (filter-append (clashes_beside x) xs ys) ∙ least_append o (filter (clashes_beside x) xs) (filter (clashes_beside x) ys)
+pub found_before : (es : Exclusions) (o : Option Var) (x : Var) (xs ys : List Var) →
+    least_from o (filter (clashes_beside es x) (xs ++ ys)) ≡ least_from (least_from o (filter (clashes_beside es x) xs)) (filter (clashes_beside es x) ys)
+found_before es o x xs ys = ap (least_from o) (filter-append (clashes_beside es x) xs ys) ∙ least_append o (filter (clashes_beside es x) xs) (filter (clashes_beside es x) ys)
 
-module _ (s : Side) where
+module _ (es : Exclusions) (s : Side) where
   all_of_more : (xs : List Term) (t : Term) → all_of (map (variables_read s) (xs ++ (t ∷ []))) ≡ all_of (map (variables_read s) xs) ++ variables_read s t
   all_of_more [] t = append-nil (variables_read s t)
   all_of_more (u ∷ xs) t = ap (λ l. variables_read s u ++ l) (all_of_more xs t) ∙ sym (append_assoc (variables_read s u) (all_of (map (variables_read s) xs)) (variables_read s t))
 
   -- one term more
   pub found_more : (o : Option Var) (x : Var) (list : List Term) (i : ℕ) (t : Term) → i < length list → t ≡ get_or list i t →
-      least_from (least_from o (filter (clashes_beside x) (all_of (map (variables_read s) (take i list))))) (filter (clashes_beside x) (variables_read s t)) ≡
-      least_from o (filter (clashes_beside x) (all_of (map (variables_read s) (take (i + 1) list))))
+      least_from (least_from o (filter (clashes_beside es x) (all_of (map (variables_read s) (take i list))))) (filter (clashes_beside es x) (variables_read s t)) ≡
+      least_from o (filter (clashes_beside es x) (all_of (map (variables_read s) (take (i + 1) list))))
   found_more o x list i t h e =
-      sym (ap (λ l. least_from o (filter (clashes_beside x) (all_of (map (variables_read s) l)))) (ap (λ k. take k list) (add-one i) ∙ take-suc list i t h ∙ ap (λ z. take i list ++ (z ∷ [])) (sym e))
-      ∙ ap (λ l. least_from o (filter (clashes_beside x) l)) (all_of_more (take i list) t)
-      ∙ found_before o x (all_of (map (variables_read s) (take i list))) (variables_read s t))
+      sym (ap (λ l. least_from o (filter (clashes_beside es x) (all_of (map (variables_read s) l)))) (ap (λ k. take k list) (add-one i) ∙ take-suc list i t h ∙ ap (λ z. take i list ++ (z ∷ [])) (sym e))
+      ∙ ap (λ l. least_from o (filter (clashes_beside es x) l)) (all_of_more (take i list) t)
+      ∙ found_before es o x (all_of (map (variables_read s) (take i list))) (variables_read s t))
+
+-- A test that is true exactly at equal names is that of their bytes.
+pub name_test : (b : Bool) (m n : List ℕ) → IsTrue b ↔ (m ≡ n) → b ≡ bytes_eq m n
+name_test b m n h = same_from_decides b (bytes_eq m n) h (bytes_eq-Decides m n)

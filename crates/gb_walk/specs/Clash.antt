@@ -1,6 +1,6 @@
 -- Program variables that a form reads through a memory, and those among them that clash with another one.
-use Rattle.std.specs.Prelude.{ℕ, Bool, true, false, not, ◌&&◌, if◌then◌else◌, List, [], ◌∷◌, ◌++◌, ◌-◌, length, take, Option, Some, None}
-use Rattle.std.specs.List.{filter}
+use Rattle.std.specs.Prelude.{ℕ, Bool, true, false, not, ◌&&◌, ◌||◌, bytes_eq, if◌then◌else◌, List, [], ◌∷◌, ◌++◌, ◌-◌, length, take, Option, Some, None}
+use Rattle.std.specs.List.{filter, list_any}
 use Rattle.std.specs.Cmp.Lexicographic.{slice_cmp}
 use Rattle.std.specs.Ordering.{is_lt, nat_cmp, ordering_then}
 use Rattle.std.specs.declared.cmp.Ordering.{Ordering}
@@ -13,6 +13,7 @@ use Rattle.gb_terms.specs.declared.term.Head.{Head}
 use Rattle.gb_terms.specs.declared.term.Head.TheVariants as head
 use Rattle.gb_terms.specs.Equal.{side_eq, var_eq}
 use Rattle.gb_walk.specs.Change.{is_own, is_left_or_right}
+use Rattle.gb_walk.specs.declared.clash.Excluded.{Excluded}
 
 -- the variable that a head reads itself, if it reads one through this memory
 abbrev pub read_by : Head → Side → List Var
@@ -42,18 +43,31 @@ abbrev mutual
   each_read s end_of-Term = []
   each_read s (more_of-Term t ts) = variables_read s t ∷ each_read s ts
 
--- Two variables clash when they are the same, or when one is all globals of a module and the other no local. (A global that a
--- module's restriction excludes clashes with none of that module's: restrictions come with abstract modules.)
-abbrev pub clashes : Var → Var → Bool
-clashes (Glob a) (Local y) = false
-clashes (Local x) (Glob b) = false
-clashes (Glob a) y = true
-clashes x (Glob b) = true
-clashes x y = var_eq x y
+-- of abstract modules, what the restriction of each excludes
+abbrev pub Exclusions : Type 0
+Exclusions = List Excluded
+
+-- whether it is the restriction of the module of this name, and excludes a variable
+abbrev pub excludes_by : List ℕ → Var → Excluded → Bool
+excludes_by a y x = bytes_eq a x.«module» && list_any (var_eq y) x.variables
+
+-- whether the restriction of the module of this name excludes a variable
+abbrev pub excludes : Exclusions → List ℕ → Var → Bool
+excludes xs a y = list_any (excludes_by a y) xs
+
+-- Two variables clash when they are the same; when one is all globals of an abstract module and the other a global that the module's
+-- restriction doesn't exclude; or when they are all globals of two abstract modules and neither excludes the other.
+abbrev pub clashes : Exclusions → Var → Var → Bool
+clashes xs (Glob a) (Local y) = false
+clashes xs (Local x) (Glob b) = false
+clashes xs (Glob a) (Glob b) = bytes_eq a b || not (excludes xs a (Glob b) || excludes xs b (Glob a))
+clashes xs (Glob a) y = not (excludes xs a y)
+clashes xs x (Glob b) = not (excludes xs b x)
+clashes xs x y = var_eq x y
 
 -- whether y is another variable that clashes with x
-abbrev pub clashes_beside : Var → Var → Bool
-clashes_beside x y = not (var_eq x y) && clashes x y
+abbrev pub clashes_beside : Exclusions → Var → Var → Bool
+clashes_beside xs x y = not (var_eq x y) && clashes xs x y
 
 abbrev pub name_order : List ℕ → List ℕ → Ordering
 name_order = slice_cmp nat_cmp
@@ -81,5 +95,5 @@ abbrev pub least : List Var → Option Var
 least xs = least_from None xs
 
 -- the least variable that a form reads through a memory and that clashes with x, but x itself
-abbrev pub first_clash : Side → Var → Term → Option Var
-first_clash s x f = least (filter (clashes_beside x) (variables_read s f))
+abbrev pub first_clash : Exclusions → Side → Var → Term → Option Var
+first_clash xs s x f = least (filter (clashes_beside xs x) (variables_read s f))

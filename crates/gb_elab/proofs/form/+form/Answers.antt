@@ -111,10 +111,10 @@ typing-returns-in-Equalities t c =
 pub typing-returns-in-Glob : goal.typing-returns-in-Glob
 typing-returns-in-Glob t c =
     let at = environment c.args.at.now in
-    answers_as _ _ c.whole_alone.result
+    answers_as _ _ c.wanted-in-Glob.result
     (glob_is c.args.head c.args.text.now c.args.parts.now c.args.place at c.args.bound.now (option_copied c.args.want) c.in-Glob.is
-    ∙ ap (λ r. whole_alone at c.args.bound.now r c.args.place) (sym c.bare_glob.ensures))
-    c.whole_alone.ensures
+    ∙ ap (λ r. whole_alone at c.args.bound.now r c.args.place >>= wanted (option_copied c.args.want) c.args.place) (sym c.bare_glob.ensures))
+    (c.wanted-in-Glob.ensures _ c.whole_alone-whole.ensures)
 
 pub typing-returns-in-Compared : goal.typing-returns-in-Compared
 typing-returns-in-Compared t c =

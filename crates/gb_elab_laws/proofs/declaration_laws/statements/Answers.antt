@@ -10,5 +10,5 @@ returns x = record {
   truth = λ ds w t q h. (statement_is ds t q h).truth w;
   front = λ ds w t q h. (statement_is ds t q h).front w;
   free = λ ds t q h. (statement_is ds t q h).free;
-  procedures = λ ds w t q h. (statement_is ds t q h).speaks w;
+  procedures = λ ds w firm t q h. (statement_is ds t q h).speaks w firm;
 }

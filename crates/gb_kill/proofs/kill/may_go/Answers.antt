@@ -4,6 +4,7 @@ use Rattle.std.specs.Prelude.{Result}
 use Rattle.gb_core.specs.declared.refusal.Refused.{Refused}
 use Rattle.gb_goal.specs.Answers.{Answer, ◌>>=◌, Answers}
 use Rattle.gb_goal.specs.Answers.Answer.{given}
+use Rattle.gb_mods.specs.Exclusions.{exclusions}
 use Rattle.gb_full.specs.Loss.{first_loss}
 use Rattle.gb_full.specs.Lossless.{full}
 use Rattle.gb_parts.specs.OneBody.{one_seen}
@@ -22,6 +23,6 @@ returns c =
     let k = placed_seen c.args.at.now in
     let one : c.as_slice.result.now ≡ k.statement ∷ [] = search rules in
     let two : c.as_slice-2.result.now ≡ k.statement ∷ [] = search rules in
-    leads (unread (read_behind ds k.rest o.side o.post) (effects_of ds (k.statement ∷ []))) (full (first_loss ds (k.statement ∷ []))) c.full.result
-    (ap (λ is. unread (read_behind ds k.rest o.side o.post) (effects_of ds is)) (sym one) ∙ c.in_ok-check_behind.ensures)
+    leads (unread (exclusions ds) (read_behind ds k.rest o.side o.post) (effects_of ds (k.statement ∷ []))) (full (first_loss ds (k.statement ∷ []))) c.full.result
+    (ap (λ is. unread (exclusions ds) (read_behind ds k.rest o.side o.post) (effects_of ds is)) (sym one) ∙ c.in_ok-check_behind.ensures)
     (subst (λ l. Answers (full l) c.full.result) (c.in_ok-lost.ensures ∙ ap (first_loss ds) two) c.full.ensures)

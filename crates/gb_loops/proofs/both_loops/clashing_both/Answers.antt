@@ -12,5 +12,6 @@ least_append o (x ∷ xs) ys = least_append (lesser o x) xs ys
 pub returns : goal.returns
 returns c =
     let f = c.args.form.now in
-    let right = filter (is_clashing Right f) c.args.right.now in
-    c.clashing_from.ensures ∙ ap (λ o. least_from o right) c.clashing_from-found.ensures ∙ least_append None (filter (is_clashing Left f) c.args.left.now) right
+    let es = c.args.exclusions.now in
+    let right = filter (is_clashing es Right f) c.args.right.now in
+    c.clashing_from.ensures ∙ ap (λ o. least_from o right) c.clashing_from-found.ensures ∙ least_append None (filter (is_clashing es Left f) c.args.left.now) right

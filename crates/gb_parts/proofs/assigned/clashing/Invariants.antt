@@ -5,4 +5,4 @@ use Rattle.gb_parts.specs.Assigned.{clashing, is_clashing}
 use Rattle.gb_parts.proofs.assigned.clashing.Given as goal
 
 abbrev pub invariant-loop-target : goal.invariant-loop-target
-invariant-loop-target l = least_from (option_copied l.found) (filter (is_clashing l.side l.form) (drop l.target-index l.targets)) ≡ clashing l.side l.targets l.form
+invariant-loop-target l = least_from (option_copied l.found) (filter (is_clashing l.exclusions l.side l.form) (drop l.target-index l.targets)) ≡ clashing l.exclusions l.side l.targets l.form

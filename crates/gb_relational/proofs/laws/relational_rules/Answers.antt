@@ -28,7 +28,7 @@ module _ (ds : Declarations) (scoped : IsTypedScope (declared ds)) (q : Sequent)
   c = of_sequent (context_of (declared ds)) q t.frames
 
   rule_sound : (r : Rule) → IsSoundRuleIn (declared ds) c (rule_row ds r) (IsTypedRule c r)
-  rule_sound (Relational (Rnd fs)) outer ls rs G w k Gs e = unscoped ds c (rule_row ds (Relational (Rnd fs))) G (sound c fs outer ls rs G w k) Gs e
+  rule_sound (Relational (Rnd fs)) outer ls rs G w k Gs e = sound ds scoped c fs outer ls rs G w k Gs e
   rule_sound (Relational Symmetry) outer ls rs G w k Gs e = unscoped ds c (rule_row ds (Relational Symmetry)) G (symmetry.sound c outer ls rs G w k) Gs e
   rule_sound (Relational (Drawn a)) outer ls rs G w k Gs e = one_side.sound ds scoped q t a outer ls rs G w k Gs e
   rule_sound (Relational (Transitivity u)) outer ls rs G w k Gs e = unscoped ds c (rule_row ds (Relational (Transitivity u))) G (transitivity.sound c u outer ls rs G w k) Gs e

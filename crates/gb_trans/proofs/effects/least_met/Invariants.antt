@@ -6,4 +6,4 @@ use Rattle.gb_trans.proofs.effects.least_met.Given as goal
 
 abbrev pub invariant-loop-x : goal.invariant-loop-x
 invariant-loop-x l =
-    least_from (option_copied l.least) (filter (meets l.others) (drop l.x-index l.list)) ≡ least_from (option_copied l.fn.found) (filter (meets l.others) l.list)
+    least_from (option_copied l.least) (filter (meets l.exclusions l.others) (drop l.x-index l.list)) ≡ least_from (option_copied l.fn.found) (filter (meets l.exclusions l.others) l.list)

@@ -6,4 +6,4 @@ use Rattle.gb_walk.proofs.clash.+clash.Given as goal
 
 abbrev pub invariant-in_terms-loop-i : goal.invariant-in_terms-loop-i
 invariant-in_terms-loop-i l =
-    option_copied l.least ≡ least_from (option_copied l.fn.found) (filter (clashes_beside l.x) (all_of (map (variables_read l.side) (take l.i l.list))))
+    option_copied l.least ≡ least_from (option_copied l.fn.found) (filter (clashes_beside l.exclusions l.x) (all_of (map (variables_read l.side) (take l.i l.list))))

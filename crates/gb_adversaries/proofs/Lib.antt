@@ -1,0 +1,9 @@
+pub mod Carried
+pub mod Oracles
+pub mod Signed
+pub mod There
+pub mod Writing
+pub mod Reading
+pub mod Weights
+pub mod Meanings
+pub mod KeptOff

@@ -1,6 +1,0 @@
-use Rattle.std.proofs.Common.{◌≡◌, ◌++◌, map, drop}
-use Rattle.gb_full.specs.Loss.{declared_each, reached_seen}
-use Rattle.gb_full.proofs.loss.declared_each.Given as goal
-
-abbrev pub invariant-loop-x : goal.invariant-loop-x
-invariant-loop-x l = map reached_seen l.all ++ declared_each l.scope (drop l.x-index l.list) ≡ declared_each l.scope l.list

@@ -1,6 +1,0 @@
-use Rattle.std.proofs.Common.{◌≡◌, drop}
-use Rattle.gb_mods.specs.Reach.{signature_of}
-use Rattle.gb_mods.proofs.reach.signature_named.Given as goal
-
-abbrev pub invariant-loop-s : goal.invariant-loop-s
-invariant-loop-s l = signature_of (drop l.s-index l.signatures) l.name ≡ signature_of l.signatures l.name

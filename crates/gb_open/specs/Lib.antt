@@ -1,0 +1,3 @@
+pub mod Coupled
+pub mod Kept
+pub mod Judged
