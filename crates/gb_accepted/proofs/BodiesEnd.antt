@@ -34,7 +34,7 @@ use Rattle.gb_steps.specs.declared.step.BodyRule.TheVariants as rule
 use Rattle.gb_steps.specs.declared.step.Cut.{Cut}
 use Rattle.gb_steps.specs.declared.step.Cut.TheVariants.{One, Two}
 use Rattle.gb_steps.specs.declared.step.Rule.{Rule}
-use Rattle.gb_steps.specs.declared.step.Rule.TheVariants.{OnBodies, Relational, Chance, Probability, Call, CallKnown, While, Transform, Ambient, Use, Rewrite, Smt, Linear}
+use Rattle.gb_steps.specs.declared.step.Rule.TheVariants.{OnBodies, Relational, Chance, Probability, Call, CallKnown, Abstract, While, Transform, Ambient, Use, Rewrite, Smt, Linear}
 use Rattle.gb_steps.specs.declared.step.Weakened.{Weakened}
 use Rattle.gb_typing.specs.Rules.{IsSettingOver}
 use Rattle.gb_typing.specs.Scopes.{IsTypedScope}
@@ -271,6 +271,7 @@ bodies_end ds scoped (Chance r) G Gs e g over n h = refused_given Shape Gs e
 bodies_end ds scoped (Probability r) G Gs e g over n h = refused_given Shape Gs e
 bodies_end ds scoped (Call r) G Gs e g over n h = refused_given Shape Gs e
 bodies_end ds scoped (CallKnown a r) G Gs e g over n h = refused_given Shape Gs e
+bodies_end ds scoped (Abstract k) G Gs e g over n h = refused_given Shape Gs e
 bodies_end ds scoped (While r) G Gs e g over n h = refused_given Shape Gs e
 bodies_end ds scoped (Transform a r) G Gs e g over n h = refused_given Shape Gs e
 bodies_end ds scoped (Ambient r) G Gs e g over n h = refused_given Shape Gs e

@@ -28,7 +28,7 @@ use Rattle.gb_steps.specs.declared.step.Acts.{Acts}
 use Rattle.gb_steps.specs.declared.step.Acts.TheVariants as on
 use Rattle.gb_steps.specs.declared.step.Contract.{Contract}
 use Rattle.gb_steps.specs.declared.step.Rule.{Rule}
-use Rattle.gb_steps.specs.declared.step.Rule.TheVariants.{OnBodies, Relational, Chance, Probability, Call, CallKnown, While, Transform, Ambient, Use, Rewrite, Smt, Linear}
+use Rattle.gb_steps.specs.declared.step.Rule.TheVariants.{OnBodies, Relational, Chance, Probability, Call, CallKnown, Abstract, While, Transform, Ambient, Use, Rewrite, Smt, Linear}
 use Rattle.gb_typing.specs.Context.{Context}
 use Rattle.gb_typing.specs.Goals.{IsGoalOver}
 use Rattle.gb_typing.specs.Programs.{IsBody}
@@ -49,14 +49,14 @@ use Rattle.gb_prog.specs.Ends.{KeepsEnds, LoopsEnd}
 use Rattle.gb_accepted.proofs.ChancesEnd.{rest_ends}
 use Rattle.gb_prog.proofs.Own.{good_append}
 
-few : (xs : List Var) (a : Answer (List Goal)) (Gs : List Goal) → if_few xs a ≡ given Gs → a ≡ given Gs
+pub few : (xs : List Var) (a : Answer (List Goal)) (Gs : List Goal) → if_few xs a ≡ given Gs → a ≡ given Gs
 few xs a Gs e = by_test (nat_lt (length xs) 9) e
   where
     by_test : (b : Bool) → (if b then a else refusing Shape) ≡ given Gs → a ≡ given Gs
     by_test true e = e
     by_test false e = refused_given Shape Gs e
 
-unclashing : (r : Option Var) (a : Answer (List Goal)) (Gs : List Goal) → unless_clash r a ≡ given Gs → a ≡ given Gs
+pub unclashing : (r : Option Var) (a : Answer (List Goal)) (Gs : List Goal) → unless_clash r a ≡ given Gs → a ≡ given Gs
 unclashing None a Gs e = e
 unclashing (Some x) a Gs e = refused_given (SideCondition x) Gs e
 
@@ -200,6 +200,7 @@ pub calls_end : (ds : Declarations) (c : Context) (ls rs : List TypedName) (r : 
 calls_end ds c ls rs (Call s) G w Gs e g over = acts_end ds g c s ls rs s.acts G w Gs e
 calls_end ds c ls rs (OnBodies r) G w Gs e g over = refused_given Shape Gs e
 calls_end ds c ls rs (CallKnown a r) G w Gs e g over = refused_given Shape Gs e
+calls_end ds c ls rs (Abstract k) G w Gs e g over = refused_given Shape Gs e
 calls_end ds c ls rs (While r) G w Gs e g over = refused_given Shape Gs e
 calls_end ds c ls rs (Transform a r) G w Gs e g over = refused_given Shape Gs e
 calls_end ds c ls rs (Relational r) G w Gs e g over = refused_given Shape Gs e

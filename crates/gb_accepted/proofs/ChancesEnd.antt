@@ -18,7 +18,7 @@ use Rattle.gb_goal.specs.Scope.{Declarations}
 use Rattle.gb_mods.specs.Exclusions.{exclusions}
 use Rattle.gb_holds.specs.Declared.{declared}
 use Rattle.gb_steps.specs.declared.step.Rule.{Rule}
-use Rattle.gb_steps.specs.declared.step.Rule.TheVariants.{OnBodies, Relational, Chance, Probability, Call, CallKnown, While, Transform, Ambient, Use, Rewrite, Smt, Linear}
+use Rattle.gb_steps.specs.declared.step.Rule.TheVariants.{OnBodies, Relational, Chance, Probability, Call, CallKnown, Abstract, While, Transform, Ambient, Use, Rewrite, Smt, Linear}
 use Rattle.gb_steps.specs.declared.step.ChanceRule.TheVariants.{Rnd, Hoare}
 use Rattle.gb_typing.specs.Context.{Context}
 use Rattle.gb_typing.specs.Goals.{IsGoalOver}
@@ -89,6 +89,7 @@ chances_end ds c ls rs (OnBodies r) G w Gs e g over = refused_given Shape Gs e
 chances_end ds c ls rs (Relational r) G w Gs e g over = refused_given Shape Gs e
 chances_end ds c ls rs (Call r) G w Gs e g over = refused_given Shape Gs e
 chances_end ds c ls rs (CallKnown a r) G w Gs e g over = refused_given Shape Gs e
+chances_end ds c ls rs (Abstract k) G w Gs e g over = refused_given Shape Gs e
 chances_end ds c ls rs (While r) G w Gs e g over = refused_given Shape Gs e
 chances_end ds c ls rs (Transform a r) G w Gs e g over = refused_given Shape Gs e
 chances_end ds c ls rs (Ambient r) G w Gs e g over = refused_given Shape Gs e

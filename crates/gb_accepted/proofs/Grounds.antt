@@ -21,10 +21,11 @@ use Rattle.gb_goal.specs.declared.scope.Binder.{Binder}
 use Rattle.gb_goal.specs.declared.scope.Entry.TheVariants as entry
 use Rattle.gb_goal.specs.declared.sequent.Sequent.{Sequent}
 use Rattle.gb_steps.specs.declared.step.Acts.{Acts}
+use Rattle.gb_steps.specs.declared.step.AbstractRule.{AbstractRule}
 use Rattle.gb_steps.specs.declared.step.AmbientRule.{AmbientRule}
 use Rattle.gb_steps.specs.declared.step.Rule.{Rule}
 use Rattle.gb_steps.specs.declared.step.EventLaw.TheVariants as event_law
-use Rattle.gb_steps.specs.declared.step.Rule.TheVariants.{Ambient, Rewrite, Use}
+use Rattle.gb_steps.specs.declared.step.Rule.TheVariants.{Abstract, Ambient, Rewrite, Use}
 use Rattle.gb_steps.specs.declared.step.Multiple.{Multiple}
 use Rattle.gb_steps.specs.declared.step.RewriteRule.{RewriteRule}
 use Rattle.gb_steps.specs.declared.step.RewriteRule.TheVariants as rewrite_rule
@@ -55,6 +56,7 @@ use Rattle.gb_relational.specs.Rows.{IsTypedRule}
 use Rattle.gb_phoare.specs.Rows as chance_rows
 use Rattle.gb_pr.specs.Rows as probability_rows
 use Rattle.gb_call_both.specs.Rows as call_rows
+use Rattle.gb_adv.specs.Rows as abstract_rows
 use Rattle.gb_call_known.specs.Known as of_known
 use Rattle.gb_inline.specs.Proved.{IsSoundOnProved, IsSoundProvedRule, ProvedEnd}
 use Rattle.gb_beside.specs.Beside.{beside_answer}
@@ -124,6 +126,8 @@ pub record OfTyping : Type 0 where
       (ls rs : List TypedName) → IsGoalOver (around ds q t) ls rs (goal_of q.conclusion) → IsTypedRule (around ds q t) s.rule ls rs (goal_of q.conclusion)
   pub call_rule : (ds : scope.Declarations) → IsTyped ds → (q : Sequent) (t : IsTypedGoalOf ds q) (n : Node) (s : Step) → step_given ds q n ≡ given s →
       (ls rs : List TypedName) → IsGoalOver (around ds q t) ls rs (goal_of q.conclusion) → call_rows.IsTypedRule (around ds q t) s.rule ls rs (goal_of q.conclusion)
+  pub abstract_rule : (ds : scope.Declarations) → IsTyped ds → (q : Sequent) (t : IsTypedGoalOf ds q) (n : Node) (s : Step) → step_given ds q n ≡ given s →
+      (r : AbstractRule) → s.rule ≡ Abstract r → (ls rs : List TypedName) → abstract_rows.IsTypedRule (around ds q t) r ls rs (goal_of q.conclusion)
   pub probabilities_typed : (ds : scope.Declarations) → IsTyped ds → (q : Sequent) (t : IsTypedGoalOf ds q) (n : Node) (s : Step) → step_given ds q n ≡ given s →
       (ls rs : List TypedName) → IsGoalOver (around ds q t) ls rs (goal_of q.conclusion) → probability_rows.IsTypedRule (around ds q t) s.rule ls rs (goal_of q.conclusion)
 
@@ -150,6 +154,9 @@ pub record OfRules : Type 0 where
   pub calls : (ds : scope.Declarations) → IsTyped ds → (q : Sequent) (t : IsTypedGoalOf ds q) (r : Rule) →
       IsSoundRuleIn (declared ds) (around ds q t) (call_rows.rule_row ds r) (call_rows.IsTypedRule (around ds q t) r)
   pub calls_refuse : (ds : scope.Declarations) (r : Rule) (f : Term) → call_rows.rule_row ds r (ambient f) ≡ refusing Shape
+  pub abstract_calls : (ds : scope.Declarations) → IsTyped ds → (q : Sequent) (t : IsTypedGoalOf ds q) (r : AbstractRule) →
+      IsSoundRuleIn (declared ds) (around ds q t) (abstract_rows.abstract_row ds r) (abstract_rows.IsTypedRule (around ds q t) r)
+  pub abstract_refuse : (ds : scope.Declarations) (r : AbstractRule) (f : Term) → abstract_rows.abstract_row ds r (ambient f) ≡ refusing Shape
   pub transformations_refuse : (ds : scope.Declarations) (r : Rule) (f : Term) → transformation_rows.rule_row ds r (ambient f) ≡ refusing Shape
   pub known_calls : (ds : scope.Declarations) → IsTyped ds → (q : Sequent) (t : IsTypedGoalOf ds q) → (a : Acts) (f : Term) → IsForm (around ds q t) f →
       Holds (declared ds) (record q { conclusion = f }) → (place : Place) (qs : List Sequent) → of_known.IsAnswer ds a f place q (given qs) →
@@ -187,6 +194,7 @@ pub record OfLoops : Type 0 where
   pub relational : (ds : scope.Declarations) (c : Context) (ls rs : List TypedName) (r : Rule) (G : Goal) → IsGoalOver c ls rs G → (Gs : List Goal) → equiv.rule_row ds r G ≡ given Gs → KeepsEnds (declared ds) Gs G
   pub chances : (ds : scope.Declarations) (c : Context) (ls rs : List TypedName) (r : Rule) (G : Goal) → IsGoalOver c ls rs G → (Gs : List Goal) → chance_rows.rule_row ds r G ≡ given Gs → KeepsEnds (declared ds) Gs G
   pub calls : (ds : scope.Declarations) (c : Context) (ls rs : List TypedName) (r : Rule) (G : Goal) → IsGoalOver c ls rs G → (Gs : List Goal) → call_rows.rule_row ds r G ≡ given Gs → KeepsEnds (declared ds) Gs G
+  pub abstract_calls : (ds : scope.Declarations) (c : Context) (ls rs : List TypedName) (r : AbstractRule) (G : Goal) → IsGoalOver c ls rs G → (Gs : List Goal) → abstract_rows.abstract_row ds r G ≡ given Gs → KeepsEnds (declared ds) Gs G
   pub known_calls : (ds : scope.Declarations) → IsTyped ds → (q : Sequent) (t : IsTypedGoalOf ds q) (a : Acts) (f : Term) → IsForm (around ds q t) f → Holds (declared ds) (record q { conclusion = f }) →
       (place : Place) (qs : List Sequent) → of_known.IsAnswer ds a f place q (given qs) → SequentEnds (declared ds) q → AllByRecursion (SequentEnds (declared ds)) qs
   pub same_statements : (ds : scope.Declarations) (G : Goal) (Gs : List Goal) → of_same.sim_row ds G ≡ given Gs → (g : Setting) → AllByRecursion (LoopsEnd g) Gs

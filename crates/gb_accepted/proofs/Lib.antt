@@ -4,6 +4,7 @@ pub mod BodiesEnd
 pub mod RelationalEnd
 pub mod ChancesEnd
 pub mod CallsEnd
+pub mod AbstractEnd
 pub mod ConclusionsEnd
 pub mod UsesEnd
 pub mod UnfoldedEnd

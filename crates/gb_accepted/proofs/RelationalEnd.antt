@@ -22,7 +22,7 @@ use Rattle.gb_walk.specs.Clash.{Exclusions}
 use Rattle.gb_mods.specs.Exclusions.{exclusions}
 use Rattle.gb_holds.specs.Declared.{declared}
 use Rattle.gb_steps.specs.declared.step.Rule.{Rule}
-use Rattle.gb_steps.specs.declared.step.Rule.TheVariants.{OnBodies, Relational, Chance, Probability, Call, CallKnown, While, Transform, Ambient, Use, Rewrite, Smt, Linear}
+use Rattle.gb_steps.specs.declared.step.Rule.TheVariants.{OnBodies, Relational, Chance, Probability, Call, CallKnown, Abstract, While, Transform, Ambient, Use, Rewrite, Smt, Linear}
 use Rattle.gb_steps.specs.declared.step.RelationalRule.TheVariants.{Rnd, Symmetry, Drawn, Transitivity, Sim}
 use Rattle.gb_steps.specs.declared.step.Acts.{Acts}
 use Rattle.gb_steps.specs.declared.step.Acts.TheVariants as on
@@ -150,6 +150,7 @@ relational_end ds c ls rs (Chance r) G w Gs e g over = refused_given Shape Gs e
 relational_end ds c ls rs (Probability r) G w Gs e g over = refused_given Shape Gs e
 relational_end ds c ls rs (Call r) G w Gs e g over = refused_given Shape Gs e
 relational_end ds c ls rs (CallKnown a r) G w Gs e g over = refused_given Shape Gs e
+relational_end ds c ls rs (Abstract k) G w Gs e g over = refused_given Shape Gs e
 relational_end ds c ls rs (While r) G w Gs e g over = refused_given Shape Gs e
 relational_end ds c ls rs (Transform a r) G w Gs e g over = refused_given Shape Gs e
 relational_end ds c ls rs (Ambient r) G w Gs e g over = refused_given Shape Gs e

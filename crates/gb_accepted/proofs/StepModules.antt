@@ -157,4 +157,5 @@ module _ (q : Sequent) where
     applied_same (rule.While v) place qs e = row_same (row_of ds (rule.While v)) place qs e
     applied_same (rule.Chance r) place qs e = row_same (row_of ds (rule.Chance r)) place qs e
     applied_same (rule.Probability r) place qs e = row_same (row_of ds (rule.Probability r)) place qs e
+    applied_same (rule.Abstract r) place qs e = row_same (row_of ds (rule.Abstract r)) place qs e
     applied_same (rule.Call s) place qs e = row_same (row_of ds (rule.Call s)) place qs e

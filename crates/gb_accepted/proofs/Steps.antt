@@ -52,7 +52,7 @@ rule_leads o before bs w t q goal rs h =
     let applied : Applied ds a.0.rule a.0.place q (given b.0) = subst (Applied ds a.0.rule a.0.place q) b.1 a.2.1 in
     let k =
     applied_lead o ds scoped w.hold q typed (o.loops.entered before bs scoped w.firm w.sound w.speaks q typed alone) (o.loops.proved before bs scoped w.firm w.sound w.speaks q typed alone) a.0.rule a.0.place b.0
-    (λ ls rs v. (o.typing.body_rule ds scoped q typed t a.0 a.1 ls rs v, o.typing.rule ds scoped q typed t a.0 a.1 ls rs v, o.typing.call_rule ds scoped q typed t a.0 a.1 ls rs v, o.typing.probabilities_typed ds scoped q typed t a.0 a.1 ls rs v))
+    (λ ls rs v. (o.typing.body_rule ds scoped q typed t a.0 a.1 ls rs v, o.typing.rule ds scoped q typed t a.0 a.1 ls rs v, o.typing.call_rule ds scoped q typed t a.0 a.1 ls rs v, o.typing.probabilities_typed ds scoped q typed t a.0 a.1 ls rs v, λ r e. o.typing.abstract_rule ds scoped q typed t a.0 a.1 r e ls rs))
     (o.typing.conclusion ds scoped q typed t a.0 a.1) (o.typing.used ds scoped (λ x l e plain. w.stated x l e plain) q typed alone t a.0 a.1) (o.typing.hints ds scoped (λ x l e plain. w.stated x l e plain) q typed alone t a.0 a.1)
     (o.typing.events ds scoped q typed t a.0 a.1) applied in
     subst (LeadIn ds (q ∷ [])) (given_is b.0 rs c.2) (record { typed = each_ends ds q alone b.0 k.typed (applied_same q ds a.0.rule a.0.place b.0 applied) (k.ends goal.ends); leads = λ h. (k.leads goal.ends h, tt) })

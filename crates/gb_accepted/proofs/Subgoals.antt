@@ -20,6 +20,7 @@ use Rattle.gb_goal.specs.declared.scope.ProcName.{ProcName}
 use Rattle.gb_goal.specs.declared.sequent.Sequent.{Sequent}
 use Rattle.gb_meaning.specs.Setting.{Setting}
 use Rattle.gb_meaning.specs.Written.{type_of}
+use Rattle.gb_steps.specs.declared.step.AbstractRule.{AbstractRule}
 use Rattle.gb_steps.specs.declared.step.Acts.{Acts}
 use Rattle.gb_steps.specs.declared.step.Acts.TheVariants as on
 use Rattle.gb_steps.specs.declared.step.AmbientRule.{AmbientRule}
@@ -52,6 +53,7 @@ use Rattle.gb_typing.specs.Context as context
 use Rattle.gb_typing.specs.Rules.{IsSettingOver, IsSoundIn}
 use Rattle.gb_typing.proofs.Lifted.{each}
 use Rattle.gb_prog.specs.Ends.{Entered, IsSoundOnLoops, LoopsEnd, ProceduresEnd, SequentEnds}
+use Rattle.gb_adv.specs.Rows as abstract_rows
 use Rattle.gb_call_both.specs.Rows as calls
 use Rattle.gb_pr.specs.Rows as probabilities
 use Rattle.gb_bodies.specs.Case.{IsTypedCase}
@@ -88,6 +90,7 @@ IsTypedAt ds q t r =
     (ls rs : List TypedName) → IsGoalOver (around ds q t) ls rs (goal_of q.conclusion) →
     bodies.IsTypedRule (around ds q t) r ls rs (goal_of q.conclusion) × IsTypedRule (around ds q t) r ls rs (goal_of q.conclusion)
     × calls.IsTypedRule (around ds q t) r ls rs (goal_of q.conclusion) × probabilities.IsTypedRule (around ds q t) r ls rs (goal_of q.conclusion)
+    × ((a : AbstractRule) → r ≡ rule.Abstract a → abstract_rows.IsTypedRule (around ds q t) a ls rs (goal_of q.conclusion))
 
 -- a rule on a conclusion that brings typed forms to a goal
 abbrev pub HasTypedForms : (ds : Declarations) (q : Sequent) → IsTypedGoalOf ds q → Rule → Type 0
@@ -145,6 +148,7 @@ module _ (g : Grounds) (ds : Declarations) (scope : IsTyped ds) (holds : LemmasH
   ambient_refused (rule.Probability r) f e = probabilities_refuse ds r f e
   ambient_refused (rule.Call s) f e = g.rules.calls_refuse ds (rule.Call s) f
   ambient_refused (rule.CallKnown a k) f e = refl
+  ambient_refused (rule.Abstract a) f e = g.rules.abstract_refuse ds a f
   ambient_refused (rule.While v) f e = while_refused ds v.acts v.kept f
   ambient_refused (rule.Transform a k) f e = g.rules.transformations_refuse ds (rule.Transform a k) f
   ambient_refused (rule.Smt fs) f e = refl
@@ -348,6 +352,10 @@ module _ (g : Grounds) (ds : Declarations) (scope : IsTyped ds) (holds : LemmasH
       by_law (rule.Call k) (anywhere (declared ds) q) place qs
       (λ ls rs w. g.rules.calls ds scope q t (rule.Call k) (g.rules.outer (declared ds) q t.frames) ls rs G w (typed ls rs w).2)
       (λ ls rs w Gs y s over x. g.loops.calls ds c ls rs (rule.Call k) G w Gs y s over) (sym a)
+  applied_lead (rule.Abstract k) place qs typed forms used said events a =
+      by_law (rule.Abstract k) (anywhere (declared ds) q) place qs
+      (λ ls rs w. g.rules.abstract_calls ds scope q t k (g.rules.outer (declared ds) q t.frames) ls rs G w ((typed ls rs w).4 k refl))
+      (λ ls rs w Gs y s over x. g.loops.abstract_calls ds c ls rs k G w Gs y s over) (sym a)
   applied_lead (rule.CallKnown b f) place qs typed forms used said events a =
       let known = g.rules.instances (declared ds) scope holds q t f said.0.0 said.0.1 in
       let k = g.rules.known_calls ds scope q t b f said.0.0 known place qs a in

@@ -13,6 +13,7 @@ ghost use Rattle.gb_holds.specs.Declared.{declared, Declarations as Declared};
 ghost use Rattle.gb_holds.specs.Holds.{Holds, InEachSetting};
 ghost use Rattle.gb_meaning.specs.Setting.{Setting};
 ghost use Rattle.gb_meaning.specs.Written.{type_of};
+ghost use Rattle.gb_steps.specs.declared.step.AbstractRule.{AbstractRule};
 ghost use Rattle.gb_steps.specs.declared.step.Acts.{Acts};
 ghost use Rattle.gb_steps.specs.declared.step.AmbientRule.{AmbientRule};
 ghost use Rattle.gb_steps.specs.declared.step.RewriteRule.{RewriteRule};
@@ -28,6 +29,7 @@ ghost use Rattle.gb_typing.specs.Sequents.{of_sequent, IsTypedSequent};
 ghost use Rattle.gb_typing.specs.Typing.{IsForm, IsTyped};
 ghost use Rattle.gb_amb.specs.Steps.{IsAnswer, IsTypedStep};
 ghost use Rattle.gb_bodies.specs.Rows as bodies;
+ghost use Rattle.gb_adv.specs.Rows.{abstract_row};
 ghost use Rattle.gb_call_both.specs.Rows as call_rows;
 ghost use Rattle.gb_call_known.specs.Known as of_known;
 ghost use Rattle.gb_phoare.specs.Rows as chance_rows;
@@ -59,6 +61,12 @@ pub fn chances()
 pub fn calls()
     ensures { (ds : Declarations) (c : Context) (ls rs : List TypedName) (r : Rule) (G : Goal) → IsGoalOver c ls rs G → (Gs : List Goal) →
         call_rows.rule_row ds r G ≡ given Gs → KeepsEnds (declared ds) Gs G }
+{}
+
+/// The rules on procedures of abstract modules, at typed goals.
+pub fn abstract_calls()
+    ensures { (ds : Declarations) (c : Context) (ls rs : List TypedName) (r : AbstractRule) (G : Goal) → IsGoalOver c ls rs G → (Gs : List Goal) →
+        abstract_row ds r G ≡ given Gs → KeepsEnds (declared ds) Gs G }
 {}
 
 /// The law of a rule on loops is one on sequents: typed subgoals, whose loops end where those of the sequent do; and where they hold too, so does

@@ -50,6 +50,8 @@ pub fn accepted_scripts()
     gb_pr::laws::probability_rules();
     gb_call_both::laws::call_rules();
     gb_call_both::laws::other_conclusions();
+    gb_adv::laws::abstract_rules();
+    gb_adv::laws::refused_forms();
     gb_inline::laws::transforming_rules();
     gb_inline::laws::untransformed_forms();
     gb_beside::laws::decided_beside();
@@ -62,6 +64,7 @@ pub fn accepted_scripts()
     crate::end_laws::relational();
     crate::end_laws::chances();
     crate::end_laws::calls();
+    crate::end_laws::abstract_calls();
     crate::end_laws::known_calls();
     crate::end_laws::conclusions();
     crate::end_laws::equals();

@@ -15,7 +15,7 @@ module _ (P : Routine → Type 0) (step : (r : Routine) → EachCarriedBy P r �
     each_carried (call xs r es c) = (step r (each_carried_by r), each_carried_by r, each_carried c)
     each_carried (ask xs o es c) = each_carried c
 
-    each_carried_by : (r : Routine) → EachCarriedBy P r
+    pub each_carried_by : (r : Routine) → EachCarriedBy P r
     each_carried_by (routine ps ls c v) = each_carried c
 
   pub each_procedure : (r : Routine) → P r

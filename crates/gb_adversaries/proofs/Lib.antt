@@ -1,5 +1,6 @@
 pub mod Carried
 pub mod Oracles
+pub mod Signatures
 pub mod Signed
 pub mod There
 pub mod Writing

@@ -1,5 +1,5 @@
 -- In a setting over a typed scope references mean what they stand for by declarations.
-use Rattle.std.proofs.Common.{◌≡◌, Bool, true, false, Option, Some, None, refl, ap, sym, subst}
+use Rattle.std.proofs.Common.{◌≡◌, Bool, true, false, List, Option, Some, None, refl, ap, sym, subst}
 use Rattle.std.proofs.lemmas.Bool.{false≢true}
 use Rattle.gb_terms.specs.declared.decl.Proc.{Proc}
 use Rattle.gb_terms.specs.declared.module.Bind.{Bind}
@@ -7,6 +7,7 @@ use Rattle.gb_terms.specs.declared.module.ProcRef.{ProcRef}
 use Rattle.gb_goal.specs.Instances.{name_of}
 use Rattle.gb_goal.specs.Interfaces.{ProcedureType, procedure_type}
 use Rattle.gb_goal.specs.Scope.{Declarations, abstract_of, procedure_of}
+use Rattle.gb_meaning.specs.Names.{Name}
 use Rattle.gb_meaning.specs.Setting.{Setting}
 use Rattle.gb_holds.specs.Declared.{declared}
 use Rattle.gb_holds.specs.Settings.{Interpretation, setting}
@@ -17,8 +18,9 @@ use Rattle.gb_typing.proofs.LinkedProcedures.{linked_there}
 use Rattle.gb_mods.specs.Meant.{any_of, meant_by, or_any}
 use Rattle.gb_mods.specs.declared.meant.Meant.{Meant}
 use Rattle.gb_mods.specs.declared.meant.Meant.TheVariants.{Unknown, Declared, Any}
+use Rattle.gb_adversaries.specs.BothAnyOf.{AreBothAnyOf}
 use Rattle.gb_adversaries.specs.Means.{IfDeclared, Means}
-use Rattle.gb_adversaries.proofs.There.{any_there}
+use Rattle.gb_adversaries.proofs.There.{any_there, both_there}
 
 abbrev is_declared : Meant → Bool
 is_declared (Declared f) = true
@@ -61,3 +63,9 @@ module _ (ds : Declarations) (scoped : IsTypedScope (declared ds)) where
 
   pub means_there : (g : Setting) → IsSettingOver (declared ds) g → (p : ProcRef) → Means g p (meant_by ds p)
   means_there g over p = subst (λ h. Means h p (meant_by ds p)) (sym over.meant) (means_chosen over.interpretation over.chosen p)
+
+  -- references to one procedure of an abstract module mean one procedure
+  pub both_mean : (g : Setting) → IsSettingOver (declared ds) g → (p q : ProcRef) (a : Name) (os ps : List ProcRef) → meant_by ds p ≡ Any a os → meant_by ds q ≡ Any a ps → p.name ≡ q.name →
+      AreBothAnyOf ds g a os ps p q
+  both_mean g over p q a os ps e f same =
+      subst (λ h. AreBothAnyOf ds h a os ps p q) (sym over.meant) (both_there ds scoped over.interpretation over.chosen p a os q ps e f same)

@@ -15,10 +15,10 @@ use Rattle.gb_goal.specs.Interfaces.{Interface, ProcedureType, given as given_in
 use Rattle.gb_goal.specs.Scope as scope
 use Rattle.gb_goal.specs.Scope.{abstract_of, as_abstract, entry_of, procedure_of}
 use Rattle.gb_meaning.specs.Names.{Name}
-use Rattle.gb_meaning.specs.Program.{Routine}
+use Rattle.gb_meaning.specs.Program.{Routine, Oracle}
 use Rattle.gb_meaning.specs.Setting.{Setting}
 use Rattle.gb_holds.specs.Adversary.{callable, or_none, type_named, with_oracles}
-use Rattle.gb_holds.specs.Declared.{Declarations, ModuleType, declared}
+use Rattle.gb_holds.specs.Declared.{Declarations, ModuleType, Signature, declared}
 use Rattle.gb_holds.specs.Holds.{declared_modules}
 use Rattle.gb_holds.specs.Linking.{linked_procedure, link_routine}
 use Rattle.gb_holds.specs.Modules.{Modules, found, modules_of, no_module}
@@ -32,13 +32,14 @@ use Rattle.gb_typing.proofs.AbstractModules.{abstract_in_scope}
 use Rattle.gb_typing.proofs.DeclaredTypes.{declared_type}
 use Rattle.gb_typing.proofs.OwnFootprint.{own_footprint}
 use Rattle.gb_typing.proofs.Settings.{chosen_program}
-use Rattle.gb_mods.specs.Asked.{asked_by, asked_for, asked_of, oracles_if, oracles_named}
+use Rattle.gb_mods.specs.Asked.{asked_by, asked_for, asked_of, oracles_if, oracles_named, signature_of}
 use Rattle.gb_mods.specs.Meant.{any_of, meant_by, or_any}
 use Rattle.gb_mods.specs.declared.meant.Meant.{Meant}
 use Rattle.gb_mods.specs.declared.meant.Meant.TheVariants.{Any}
 use Rattle.gb_mods.proofs.Closed.{IsIn}
 use Rattle.gb_adversaries.specs.AnyOf.{IsAnyOf}
-use Rattle.gb_adversaries.proofs.Oracles.{answers, answers_is, applied_is, as_named, callable_asked, given}
+use Rattle.gb_adversaries.specs.BothAnyOf.{AreAnswers, AreBothAnyOf, IsPairIn}
+use Rattle.gb_adversaries.proofs.Oracles.{IsFilled, answers, answers_is, applied_is, as_named, callable_asked, callable_named, callable_pair, filled_answers, given}
 use Rattle.gb_adversaries.proofs.Signed.{IsSigned, signed_there}
 
 -- What a reference means by declarations.
@@ -105,12 +106,30 @@ module _ (f : Name) (u : ProcedureType) where
   lacking_procedure i None e = absurd (none-some u e)
   lacking_procedure i (Some ps) e = own_procedure i ps e
 
+  nothing_lacks : (ps : List Param) (qs : List (Name × ProcedureType)) → of_complete ps qs f ≡ Some u → ps ≡ []
+  nothing_lacks [] qs e = refl
+  nothing_lacks (p ∷ ps) qs e = absurd (none-some u e)
+
+  all_given : (i : Interface) (o : Option (List Param)) → procedure_in (lacking i o) f ≡ Some u → o ≡ Some []
+  all_given i None e = absurd (none-some u e)
+  all_given i (Some ps) e = ap (λ (z : List Param). Some z) (nothing_lacks ps i.procedures e)
+
+  -- a module of a module type that lacks nothing is given modules for all parameters of the type
+  filled : (ds : scope.Declarations) (b : Bind) (t : ModuleType) → scope.module_type_of ds b.ty ≡ Some t → (m : Mexp) → entry_of ds (name_of m) ≡ Some (entry.AbstractModule b) →
+      procedure_in (interface_at ds None m) f ≡ Some u → IsFilled ds t.params m
+  filled ds b t k (named n) e h =
+      nothing_lacks t.params (signature_types t.signatures)
+      (ap (λ (z : Option Interface). procedure_in z f) (sym (ap (of_entry ds) e ∙ ap (option_map of_type) k)) ∙ h)
+  filled ds b t k (Apply' n c args) e h =
+      all_given (of_type t) (left_over ds t.params (interfaces_at ds None args))
+      (ap (λ (z : Option Interface). procedure_in (given_interfaces ds z (interfaces_at ds None args)) f) (sym (ap (of_entry ds) e ∙ ap (option_map of_type) k)) ∙ h)
+
   -- a procedure of an abstract module has a signature
   module _ (ds : scope.Declarations) (b : Bind) where
-    record HasSignature : Type 0 where
-      asks : ModuleType
-      asked_so : scope.module_type_of ds b.ty ≡ Some asks
-      there : found (signature_types asks.signatures) f ≡ Some u
+    pub record HasSignature : Type 0 where
+      pub asks : ModuleType
+      pub asked_so : scope.module_type_of ds b.ty ≡ Some asks
+      pub there : found (signature_types asks.signatures) f ≡ Some u
 
     named_signature : (o : Option ModuleType) → scope.module_type_of ds b.ty ≡ o → procedure_in (option_map of_type o) f ≡ Some u → HasSignature
     named_signature None q h = absurd (none-some u h)
@@ -120,7 +139,7 @@ module _ (f : Name) (u : ProcedureType) where
     applied_signature is None q h = absurd (none-some u h)
     applied_signature is (Some t) q h = record { asks = t; asked_so = q; there = lacking_procedure (of_type t) (left_over ds t.params is) h }
 
-    signature_there : (m : Mexp) → entry_of ds (name_of m) ≡ Some (entry.AbstractModule b) → procedure_in (interface_at ds None m) f ≡ Some u → HasSignature
+    pub signature_there : (m : Mexp) → entry_of ds (name_of m) ≡ Some (entry.AbstractModule b) → procedure_in (interface_at ds None m) f ≡ Some u → HasSignature
     signature_there (named n) e h =
         named_signature (scope.module_type_of ds b.ty) refl (ap (λ (z : Option Interface). procedure_in z f) (sym (ap (of_entry ds) e)) ∙ h)
     signature_there (Apply' n k args) e h =
@@ -209,10 +228,63 @@ module _ (ds : scope.Declarations) (scoped : IsTypedScope (declared ds)) (i : In
       full = signed.full;
       answers = λ o u e r f. (
         asked_of t.params (arguments_of p.«module») (as_named o),
-        subst (λ z. IsIn z (asked_of t.params (arguments_of p.«module») (as_named o))) asked_is (callable_asked ds t signed.signature (arguments_of p.«module») o u e),
+        subst (λ z. IsIn z (asked_of t.params (arguments_of p.«module») (as_named o))) asked_is (callable_asked ds t signed.signature o u e (arguments_of p.«module»)),
         answers_is ms t.params p.«module» o r f,
       );
     }
+
+    -- another reference to the procedure
+    module _ (q : ProcRef) (us : List ProcRef) (v : IsAbstract ds q a us) (same : q.name ≡ p.name) where
+      same_bind : v.bind ≡ w.bind
+      same_bind = same_Some v.bind w.bind (sym (ap as_abstract v.bound) ∙ ap (λ n. as_abstract (entry_of ds n)) (v.name ∙ sym w.name) ∙ ap as_abstract w.bound)
+
+      type_there : scope.module_type_of ds (let b = v.bind in b.ty) ≡ Some t
+      type_there = ap (λ (b : Bind). scope.module_type_of ds b.ty) same_bind ∙ s.asked_so
+
+      same_body : g.procedure q ≡ Some (link_routine (answers ms t.params q.«module») signed.body)
+      same_body =
+          (λ j. found (applied_is ms q.«module» j) q.name)
+          ∙ (λ j. found ((ap ms (v.name ∙ sym w.name) ∙ linked_module) j (given ms q.«module»)) (same j))
+          ∙ found-each_linked (answers ms t.params q.«module») x.program.procedures p.name ∙ ap (option_map (link_routine (answers ms t.params q.«module»))) signed.there
+
+      same_asked : asked_for t.params (arguments_of q.«module») (oracles_named ds t.params signed.signature.oracles) ≡ us
+      same_asked =
+          sym (ap (λ o. asked_by ds o (arguments_of q.«module») q.name) type_there
+          ∙ ap (λ o. asked_for t.params (arguments_of q.«module») (oracles_if ds t.params o)) (ap (signature_of t.signatures) same ∙ signed.named_so)) ∙ v.asked
+
+      same_filled : IsFilled ds t.params q.«module»
+      same_filled = filled q.name v.types ds v.bind t type_there q.«module» v.bound v.typed
+
+    -- by two references
+    module _ (q : ProcRef) (us : List ProcRef) (v : IsAbstract ds q a us) (same : p.name ≡ q.name) where
+      are_answers : (o : Oracle) (u : Signature) → callable (declared ds) t signed.signature o ≡ Some u →
+          AreAnswers ds g qs us u (answers ms t.params p.«module» o) (answers ms t.params q.«module» o)
+      are_answers o u e =
+          let k = callable_named ds t signed.signature o u e in
+          let l = filled_answers ds ms o u t.params p.«module» (same_filled p qs w refl) k.1 in
+          let r = filled_answers ds ms o u t.params q.«module» (same_filled q us v (sym same)) k.1 in
+          record {
+            first = asked_of t.params (arguments_of p.«module») (as_named o);
+            second = asked_of t.params (arguments_of q.«module») (as_named o);
+            paired = subst (λ z. z) (λ j. IsPairIn (same_asked p qs w refl j) (same_asked q us v (sym same) j) (asked_of t.params (arguments_of p.«module») (as_named o)) (asked_of t.params (arguments_of q.«module») (as_named o)))
+                (callable_pair ds t signed.signature o u e (arguments_of p.«module») (arguments_of q.«module»));
+            left_meant = l.0;
+            right_meant = r.0;
+            left_serves = l.1;
+            right_serves = r.1;
+          }
+
+      are_both_any_of : AreBothAnyOf ds g a qs us p q
+      are_both_any_of = record {
+        callable = callable (declared ds) t signed.signature;
+        left = answers ms t.params p.«module»;
+        right = answers ms t.params q.«module»;
+        own = signed.body;
+        left_there = same_body p qs w refl;
+        right_there = same_body q us v (sym same);
+        typed = subst (λ gs. IsTypedRoutine g (callable (declared ds) t signed.signature) gs signed.body) (sym (own_footprint (declared ds) i a x under (let y = fits.program in y.ordered))) signed.typed;
+        answers = are_answers;
+      }
 
   by_choice : (w : IsAbstract ds p a qs) → HasSignature p.name w.types ds w.bind → (o : Option Chosen) → chosen_under i.programs w.bind.name ≡ o →
       IsChosenIf (declared ds) i.programs g i.world w.bind o → IsAnyOf g a qs p
@@ -223,4 +295,16 @@ module _ (ds : scope.Declarations) (scoped : IsTypedScope (declared ds)) (i : In
   any_there e =
       let w = abstract_there ds p a qs e in
       by_choice w (signature_there p.name w.types ds w.bind p.«module» w.bound w.typed) (chosen_under i.programs w.bind.name) refl
+      (chosen_for (declared ds) i ds over.chosen (name_of p.«module») w.bind w.bound)
+
+  -- one procedure, by two references
+  both_by_choice : (w : IsAbstract ds p a qs) → HasSignature p.name w.types ds w.bind → (q : ProcRef) (us : List ProcRef) → IsAbstract ds q a us → p.name ≡ q.name →
+      (o : Option Chosen) → chosen_under i.programs w.bind.name ≡ o → IsChosenIf (declared ds) i.programs g i.world w.bind o → AreBothAnyOf ds g a qs us p q
+  both_by_choice w s q us v same None e k = absurd k
+  both_by_choice w s q us v same (Some x) e k = are_both_any_of w s x e k.0 k.1 q us v same
+
+  pub both_there : (q : ProcRef) (us : List ProcRef) → meant_by ds p ≡ Any a qs → meant_by ds q ≡ Any a us → p.name ≡ q.name → AreBothAnyOf ds g a qs us p q
+  both_there q us e f same =
+      let w = abstract_there ds p a qs e in
+      both_by_choice w (signature_there p.name w.types ds w.bind p.«module» w.bound w.typed) q us (abstract_there ds q a us f) same (chosen_under i.programs w.bind.name) refl
       (chosen_for (declared ds) i ds over.chosen (name_of p.«module») w.bind w.bound)

@@ -1,3 +1,4 @@
 pub mod AnyOf
+pub mod BothAnyOf
 pub mod Carried
 pub mod Means

@@ -1,11 +1,12 @@
 //! What the procedures of abstract modules write and read, that they lose no weight but by their oracles, and that they keep off what
 //! restrictions exclude.
 
-ghost use Rattle.std.specs.Prelude.{◌≡◌, Bool, true, List, Some, map};
+ghost use Rattle.std.specs.Prelude.{◌≡◌, Bool, true, List, None, Some, map};
 ghost use Rattle.gb_core.specs.declared.ty.Ty.{Ty};
 ghost use Rattle.gb_core.specs.declared.var.Var.TheVariants.{Glob};
 ghost use Rattle.gb_terms.specs.declared.module.Mexp.TheVariants.{Name as named};
 ghost use Rattle.gb_terms.specs.declared.module.ProcRef.{ProcRef};
+ghost use Rattle.gb_goal.specs.Interfaces.{ProcedureType, procedure_type};
 ghost use Rattle.gb_goal.specs.Scope.{Declarations};
 ghost use Rattle.gb_meaning.specs.Names.{Name, Path};
 ghost use Rattle.gb_meaning.specs.Program.{Program, Routine};
@@ -13,12 +14,14 @@ ghost use Rattle.gb_meaning.specs.Setting.{Setting};
 ghost use Rattle.gb_meaning.specs.Sound.{FullRoutine};
 ghost use Rattle.gb_laws.specs.Cells.{Key, Cell, Covers, global_cell};
 ghost use Rattle.gb_laws.specs.Cells.Key.{local};
+ghost use Rattle.gb_laws.specs.Finite.{IsVariableType};
 ghost use Rattle.gb_laws.specs.Reads.{routine_cells};
 ghost use Rattle.gb_laws.specs.Writes.{IfGlobal, IsNone, UnwrittenBy, keys_of};
 ghost use Rattle.gb_holds.specs.Declared.{declared};
 ghost use Rattle.gb_holds.specs.Settings.{Interpretation, setting};
 ghost use Rattle.gb_typing.specs.Chosen.{IsChosenOver};
 ghost use Rattle.gb_typing.specs.Forms.{IsKeptOff};
+ghost use Rattle.gb_typing.specs.Programs.{HaveVariableTypes};
 ghost use Rattle.gb_typing.specs.Rules.{IsSettingOver};
 ghost use Rattle.gb_typing.specs.Scopes.{IsTypedScope};
 ghost use Rattle.gb_mods.specs.Exclusions.{exclusions};
@@ -26,6 +29,7 @@ ghost use Rattle.gb_mods.specs.Meant.{meant_by};
 ghost use Rattle.gb_mods.specs.declared.meant.Meant.TheVariants.{Any};
 ghost use Rattle.gb_mods.proofs.Closed.{IsIn};
 ghost use Rattle.gb_adversaries.specs.AnyOf.{IfOneOf, IsAnyOf};
+ghost use Rattle.gb_adversaries.specs.BothAnyOf.{AreBothAnyOf};
 ghost use Rattle.gb_adversaries.specs.Carried.{EachCarried, EachCarriedBy};
 ghost use Rattle.gb_adversaries.specs.Means.{Means};
 
@@ -34,6 +38,22 @@ ghost use Rattle.gb_adversaries.specs.Means.{Means};
 pub fn any_there()
     ensures { (ds : Declarations) → IsTypedScope (declared ds) → (i : Interpretation) → IsChosenOver (declared ds) i →
         (p : ProcRef) (a : Name) (qs : List ProcRef) → meant_by ds p ≡ Any a qs → IsAnyOf (setting (declared ds) i) a qs p }
+{}
+
+/// There, two references to one procedure of an abstract module mean one procedure of its program, linked with the oracles of each, which answer
+/// in pairs.
+pub fn both_there()
+    ensures { (ds : Declarations) → IsTypedScope (declared ds) → (g : Setting) → IsSettingOver (declared ds) g → (p q : ProcRef) (a : Name) (os ps : List ProcRef) →
+        meant_by ds p ≡ Any a os → meant_by ds q ≡ Any a ps → p.name ≡ q.name → AreBothAnyOf ds g a os ps p q }
+{}
+
+/// The type that is known of a procedure of an abstract module is that of its signature: its parameters and its result have types that
+/// variables may have, and two references to one procedure have one type.
+pub fn abstract_types()
+    ensures variables { (ds : Declarations) → IsTypedScope (declared ds) → (p : ProcRef) (a : Name) (os : List ProcRef) → meant_by ds p ≡ Any a os →
+        (t : ProcedureType) → procedure_type ds None p ≡ Some t → HaveVariableTypes t.params × IsVariableType t.result }
+    ensures same { (ds : Declarations) (p q : ProcRef) (a : Name) (os us : List ProcRef) → meant_by ds p ≡ Any a os → meant_by ds q ≡ Any a us → p.name ≡ q.name →
+        (t u : ProcedureType) → procedure_type ds None p ≡ Some t → procedure_type ds None q ≡ Some u → t ≡ u }
 {}
 
 /// In a setting over a typed scope each reference means what it stands for by declarations.

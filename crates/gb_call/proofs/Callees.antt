@@ -111,7 +111,7 @@ module _ (g : Setting) (r : Routine) (U : List Var) (left : (x : Path) → Spare
   each_kept [] h = tt
   each_kept (e ∷ l) h = ((λ x s. (h x s).0), each_kept l (λ x s. (h x s).1))
 
-  every_differs : Every (λ n. DifferIn g.types U m (record { globals = n.globals; frame = m.frame })) (outcomes g r vs m.globals)
+  pub every_differs : Every (λ n. DifferIn g.types U m (record { globals = n.globals; frame = m.frame })) (outcomes g r vs m.globals)
   every_differs = Every-weaken {P = Kept} (outcomes g r vs m.globals) (λ n k. by_place n k) (each_kept (outcomes g r vs m.globals) (λ x s. routine_leaves g r x (left x s) vs m.globals))
     where
       by_place : (n : Memory) → Kept n → DifferIn g.types U m (record { globals = n.globals; frame = m.frame })

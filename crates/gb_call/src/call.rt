@@ -1,6 +1,6 @@
 //! The rule `call`, by what a procedure is said to do.
 
-ghost use Rattle.std.specs.Prelude.{◌≡◌, ◌∷◌, Some, IfOk, IfSome, map};
+ghost use Rattle.std.specs.Prelude.{◌≡◌, ◌∷◌, Some, IfOk, IfSome, map, filter};
 ghost use Rattle.std.specs.Option.{option_copied, option_map};
 ghost use Rattle.gb_core.specs.declared.refusal.Why.TheVariants.{SideCondition};
 ghost use Rattle.gb_goal.specs.Answers.{nowhere, Answers, Refuses};
@@ -21,7 +21,7 @@ ghost use Rattle.gb_full.specs.Loss.{first_loss};
 ghost use Rattle.gb_full.specs.Lossless.{of_rest};
 ghost use Rattle.gb_call.specs.Call.{before_call, by_callee, call_goals, call_row, chance_goals, chances_by_callee, callee_of, callee_seen, known_seen, left_of, on_programs, IsTypedContract};
 ghost use Rattle.gb_call.specs.LastCall.{call_seen, last_call};
-ghost use Rattle.gb_call.specs.Outcomes.{clash_after, globals_seen};
+ghost use Rattle.gb_call.specs.Outcomes.{clash_after, globals_seen, is_left};
 ghost use Rattle.gb_call.specs.Written.{with_types};
 
 use crate::last_call::{Last, last_call};
@@ -145,8 +145,32 @@ pub struct ReadAfter {
     pub globals: TypedGlobals,
 }
 
-/// What is read of a memory after a call. None where one of the globals that the call writes has no type.
+/// What is read of a memory after a call with this left side, and of what it writes, where this is said of its outcome. None where one of
+/// the globals has no type.
 #[tactic(auto, using(crate::proofs::OutcomeSteps::left_as_read))]
+pub fn read_of(
+    alloc: Global,
+    side: Side,
+    scope: &Scope,
+    targets: &[Var],
+    written: &[Var],
+    said: &Form,
+    post: &Form,
+) -> Result<Option<ReadAfter>, AllocError>
+    ensures reads { IfOk result (λ made. IfSome made (λ r. (r.reads.said ≡ variables_read side said.now) × (r.reads.after ≡ variables_read side post.now))) }
+    ensures globals { IfOk result (λ made. option_map (λ r. globals_seen r.globals) made ≡ with_types scope.now (filter (is_left side targets.now said.now post.now) written.now)) }
+{
+    let said = variables_read(alloc, said, side)?;
+    let after = variables_read(alloc, post, side)?;
+    let reads = Reads { said, after };
+    let left = left_of(alloc, targets, &reads, written)?;
+    match with_types(alloc, scope, left.as_slice())? {
+        Some(globals) => Ok(Some(ReadAfter { reads, globals })),
+        None => Ok(None),
+    }
+}
+
+/// What is read of a memory after a call. None where one of the globals that the call writes has no type.
 pub fn read_after(
     alloc: Global,
     side: Side,
@@ -158,14 +182,16 @@ pub fn read_after(
     ensures reads { IfOk result (λ made. IfSome made (λ r. (r.reads.said ≡ variables_read side contract.now.post) × (r.reads.after ≡ variables_read side post.now))) }
     ensures globals { IfOk result (λ made. option_map (λ r. globals_seen r.globals) made ≡ with_types scope.now (left_of side (callee_seen callee.now) contract.now post.now)) }
 {
-    let said = variables_read(alloc, &contract.post, side)?;
-    let after = variables_read(alloc, post, side)?;
-    let reads = Reads { said, after };
-    let left = left_of(alloc, callee.call.targets, &reads, callee.written)?;
-    match with_types(alloc, scope, left.as_slice())? {
-        Some(globals) => Ok(Some(ReadAfter { reads, globals })),
-        None => Ok(None),
-    }
+    let said = &contract.post;
+    read_of(
+        alloc,
+        side,
+        scope,
+        callee.call.targets,
+        callee.written,
+        said,
+        post,
+    )
 }
 
 /// The least variable of the left side, or of the globals that are written, with which another one clashes where it is replaced.
@@ -284,7 +310,7 @@ fn chances_left(
 }
 
 /// Goals behind one.
-fn in_front(
+pub fn in_front(
     alloc: Global,
     goal: &Sequent,
     first: Form,

@@ -27,7 +27,7 @@ pub struct TypedGlobal {
 pub type TypedGlobals = Items<TypedGlobal>;
 
 /// The type of the first of these names that is this one.
-fn type_named<'a>(list: &'a [TypedName], name: &Name) -> Option<&'a Shared<Ty>>
+pub fn type_named<'a>(list: &'a [TypedName], name: &Name) -> Option<&'a Shared<Ty>>
     ensures { option_copied result ≡ local_type list.now name.now }
 {
     for x in list {

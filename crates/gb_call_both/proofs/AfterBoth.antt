@@ -18,7 +18,6 @@ use Rattle.gb_terms.specs.Equal.{var_eq}
 use Rattle.gb_terms.proofs.Equality.{var_eq-Decides}
 use Rattle.gb_walk.specs.declared.change.Change.TheVariants.{ToTerm}
 use Rattle.gb_walk.specs.Change.{Changes, term_changed}
-use Rattle.gb_walk.specs.Clash.{variables_read}
 use Rattle.gb_meaning.specs.Judgments.{Judge, IsFair, IsTrueUnder, den}
 use Rattle.gb_meaning.specs.Meanings.{truth, value_in}
 use Rattle.gb_meaning.specs.Memory.{Memory, assigned, read, result_name}
@@ -43,7 +42,6 @@ use Rattle.gb_typing.proofs.Fitting.{fits_reframed}
 use Rattle.gb_typing.proofs.Forms.{implies_typed, implies_use}
 use Rattle.gb_typing.proofs.Quantified.{inside_all, meaning_inside}
 use Rattle.gb_typing.proofs.Scripts.{none_some}
-use Rattle.gb_typing.proofs.Spared.{Clear}
 use Rattle.gb_typing.specs.Forms.{IsAlone, implies_form}
 use Rattle.gb_typing.specs.Rules.{outermost}
 use Rattle.gb_prog.specs.AllValues.{Located, in_memory, to_bound_values, AreLocated, AreAlone}
@@ -56,7 +54,6 @@ use Rattle.gb_call.proofs.After.{all_append, written_both}
 use Rattle.gb_call.proofs.AfterMeans.{IsOneIn}
 use Rattle.gb_call.proofs.LeftSides.{AreFor, are_for, left_puts, left_writes, left_ends, left_values, value_here}
 use Rattle.gb_call_both.specs.BothOutcomes.{after_both_where, bound_of_both, globals_of, left_side_of, left_sides, of_both_returns, result_of}
-use Rattle.gb_call_both.proofs.NarrowedSides.{sides_typed}
 use Rattle.gb_call_both.proofs.OneSide.{anywhere, ends_with_result, ends_without_result, is_result, result_frame, result_variable, said_with_result, said_without_result}
 use Rattle.gb_call_both.proofs.Sided.{AreOnSides, globals_on_sides, left_only, of_side, pushed_append, right_only, same_form, sided_typed, values_typed, written_sides}
 
@@ -106,7 +103,7 @@ module _ (b : Context) (ls rs : List TypedName) (R S : Ty) (W V : List TypedVari
   abbrev G : List Located
   G = globals_of o p
 
-  globals_located : (f h : List TypedName) (W V : List TypedVariable) → AreIn (outermost b) (Some []) W → AreIn (outermost b) (Some []) V → AreLocated (reframed (outermost b) None (Some f) (Some h)) (in_memory side.Left W ++ in_memory side.Right V)
+  pub globals_located : (f h : List TypedName) (W V : List TypedVariable) → AreIn (outermost b) (Some []) W → AreIn (outermost b) (Some []) V → AreLocated (reframed (outermost b) None (Some f) (Some h)) (in_memory side.Left W ++ in_memory side.Right V)
   globals_located f h [] [] i k = tt
   globals_located f h [] (v ∷ V) i k = ((tt, anywhere b None (Some f) (Some h) h v.variable v.ty k.0.0, k.0.1), globals_located f h [] V i k.1)
   globals_located f h (w ∷ W) V i k = ((tt, anywhere b None (Some f) (Some h) f w.variable w.ty i.0.0, i.0.1), globals_located f h W V i.1 k)
@@ -117,7 +114,7 @@ module _ (b : Context) (ls rs : List TypedName) (R S : Ty) (W V : List TypedVari
   on_sides false true = (tt, globals_on_sides W V)
   on_sides false false = globals_on_sides W V
 
-  located_here : (l r : Bool) → AreLocated (reframed (outermost b) None (Some (frame_if l R)) (Some (frame_if r S))) (bound_of_both l r o p)
+  pub located_here : (l r : Bool) → AreLocated (reframed (outermost b) None (Some (frame_if l R)) (Some (frame_if r S))) (bound_of_both l r o p)
   located_here true true = ((tt, refl, left_finite), ((tt, refl, right_finite), globals_located (frame_if true R) (frame_if true S) W V left_globals right_globals))
   located_here true false = ((tt, refl, left_finite), globals_located (frame_if true R) (frame_if false S) W V left_globals right_globals)
   located_here false true = ((tt, refl, right_finite), globals_located (frame_if false R) (frame_if true S) W V left_globals right_globals)
@@ -212,7 +209,7 @@ module _ (b : Context) (ls rs : List TypedName) (R S : Ty) (W V : List TypedVari
       left_puts b None (Some ls) (Some rs) side.Right tt rs refl (X l true) (Y l true) (right_depth l true) S right_finite (right_there l) v ys (taken ys (bound_term (right_depth l true) S)) (right_taken l)
   right_typed l false v = tt
 
-  finite_types : (l r : Bool) → AllByRecursion (λ w. IsFinite w.1.ty) (bound_of_both l r o p)
+  pub finite_types : (l r : Bool) → AllByRecursion (λ w. IsFinite w.1.ty) (bound_of_both l r o p)
   finite_types l r = of_located (bound_of_both l r o p) (located_here l r)
     where
       of_located : (U : List Located) → AreLocated (said_in l r) U → AllByRecursion (λ w. IsFinite w.1.ty) U
@@ -239,16 +236,16 @@ module _ (b : Context) (ls rs : List TypedName) (R S : Ty) (W V : List TypedVari
     abbrev here : Bool → Bool → State
     here l r = record (between s m n) { bound = bindings l r }
 
-    fits_over : (f e : List TypedName) → IsSettingOf (reframed (outermost b) None (Some f) (Some e)) g
+    pub fits_over : (f e : List TypedName) → IsSettingOf (reframed (outermost b) None (Some f) (Some e)) g
     fits_over f e = fits_reframed (outermost b) g fits None (Some f) (Some e)
 
     state_over : (f e : List TypedName) → IsStateOf (reframed (outermost b) None (Some f) (Some e)) g (between s m n)
     state_over f e = record { logical = fit.logical; bound = fit.bound }
 
-    values_have : (l r : Bool) → AllByRecursion (λ w. has g.types w.1.ty (v w) ≡ true) (bound_of_both l r o p)
+    pub values_have : (l r : Bool) → AllByRecursion (λ w. has g.types w.1.ty (v w) ≡ true) (bound_of_both l r o p)
     values_have l r = have_types b None (Some (frame_if l R)) (Some (frame_if r S)) g (fits_over (frame_if l R) (frame_if r S)) j fair (between s h k) (bound_of_both l r o p) (located_here l r)
 
-    fit_bindings : (l r : Bool) → FitBinders g.types (X l r) (bindings l r)
+    pub fit_bindings : (l r : Bool) → FitBinders g.types (X l r) (bindings l r)
     fit_bindings l r = fit_pushed b None (Some ls) (Some rs) g (fits_over ls rs) j fair v (bound_of_both l r o p) [] s.bound (values_have l r) tt
 
     -- what becomes of a memory by a result
@@ -257,14 +254,14 @@ module _ (b : Context) (ls rs : List TypedName) (R S : Ty) (W V : List TypedVari
     end false xs z q = q
 
     -- a result in the place of a left side
-    record IsReturned (l r : Bool) (P : Readable) (a : Side) (change : Memory → Memory) (cs : Changes) : Type 0 where
-      all_writes_are : List Written
-      changes : written_changes all_writes_are ≡ cs
-      typed : AllByRecursion (IsTypedWrite P (inside l r) g (here l r)) all_writes_are
-      ends : (q : State) → all_written g q all_writes_are ≡ with_side q a (change (memory_of q a))
+    pub record IsReturned (l r : Bool) (P : Readable) (a : Side) (change : Memory → Memory) (cs : Changes) : Type 0 where
+      pub all_writes_are : List Written
+      pub changes : written_changes all_writes_are ≡ cs
+      pub typed : AllByRecursion (IsTypedWrite P (inside l r) g (here l r)) all_writes_are
+      pub ends : (q : State) → all_written g q all_writes_are ≡ with_side q a (change (memory_of q a))
 
     module _ (P : Readable) where
-      left_returned : (l r : Bool) → AllByRecursion (λ x. IsAlone g x (P side.Left)) xs → IsReturned l r P side.Left (end l xs left_value) (left_side_of l o (left_depth l r))
+      pub left_returned : (l r : Bool) → AllByRecursion (λ x. IsAlone g x (P side.Left)) xs → IsReturned l r P side.Left (end l xs left_value) (left_side_of l o (left_depth l r))
       left_returned false r a = record { all_writes_are = []; changes = refl; typed = tt; ends = λ q. sym (put_itself q side.Left) }
       left_returned true r a =
           let e : Term = bound_term (left_depth true r) R in
@@ -317,16 +314,16 @@ module _ (b : Context) (ls rs : List TypedName) (R S : Ty) (W V : List TypedVari
             ends_with_result b None (Some ls) (Some rs) g (fits_over ls rs) n k U right_differs V right_globals (P side.Right) rs right_alone fits j fair s fit S ys right_takes right_value right_has right_side_alone c
         right_reads false c = ends_without_result b None (Some ls) (Some rs) g (fits_over ls rs) n k U right_differs V right_globals (P side.Right) rs right_alone ys right_value c
 
-        -- it says there what the form says after both calls
-        return_means : (l r : Bool) → Covers g l (P side.Left) xs T W → Covers g r (P side.Right) ys U V → (q : Term) → IsForm d q → IsWithin (reading P) q →
-            den g j (of_both_returns l r o p q) (here l r) ≡ den g j q (between s (assigned g.types left_base xs left_value) (assigned g.types right_base ys right_value))
-        return_means l r left_covers right_covers q w within =
-            let A = left_returned l r left_side_alone in
-            let B = right_returned l r right_side_alone in
+        -- It says there what the form says of memories in which all that it may read is read as after the writes.
+        pub returned_means : (l r : Bool) (f e : Memory → Memory) (cs ds : Changes) → IsReturned l r P side.Left f cs → IsReturned l r P side.Right e ds → (x z : Memory) →
+            ((y : Var) (t : Ty) → IsIn d (Some ls) y t → P side.Left y ≡ true → read g.types (f (overwritten g.types W h m)) y t ≡ read g.types x y t) →
+            ((y : Var) (t : Ty) → IsIn d (Some rs) y t → P side.Right y ≡ true → read g.types (e (overwritten g.types V k n)) y t ≡ read g.types z y t) →
+            (q : Term) → IsForm d q → IsWithin (reading P) q → den g j (term_changed q ((cs ++ ds) ++ to_bound_values G)) (here l r) ≡ den g j q (between s x z)
+        returned_means l r f e cs ds A B x z left_same right_same q w within =
             let us : List Written = A.all_writes_are ++ B.all_writes_are in
             let vs : List Written = bound_writes v G in
-            let z : Memory = overwritten g.types W h m in
-            let y : Memory = overwritten g.types V k n in
+            let a : Memory = overwritten g.types W h m in
+            let c : Memory = overwritten g.types V k n in
             let inner : List Binding = pushed (binding_of v) (result_of r p) (pushed (binding_of v) (result_of l o) s.bound) in
             ap (λ cs. den g j (term_changed q cs) (here l r))
             (sym (map-append (λ (w : Written). ToTerm (Program w.variable w.side) w.term) us vs
@@ -339,15 +336,21 @@ module _ (b : Context) (ls rs : List TypedName) (R S : Ty) (W V : List TypedVari
             (globals_located ls rs W V left_globals right_globals) globals_alone)))
             ∙ ap (den g j q) (written_both g (between s m n) us vs
             ∙ ap (λ e. all_written g e us) (written_sides g s m n h k G (globals_on_sides W V) ∙ (λ i. between s (overwritten g.types (left_only W V i) h m) (overwritten g.types (right_only W V i) k n)))
-            ∙ written_both g (between s z y) A.all_writes_are B.all_writes_are
-            ∙ ap (λ e. all_written g e A.all_writes_are) (B.ends (between s z y))
-            ∙ A.ends (between s z (end r ys right_value y)))
-            ∙ same_form b (Some ls) (Some rs) g fits j fair P s (end l xs left_value z) (end r ys right_value y) (assigned g.types left_base xs left_value) (assigned g.types right_base ys right_value)
-            (left_reads l left_covers) (right_reads r right_covers) q w within
+            ∙ written_both g (between s a c) A.all_writes_are B.all_writes_are
+            ∙ ap (λ e. all_written g e A.all_writes_are) (B.ends (between s a c))
+            ∙ A.ends (between s a (e c)))
+            ∙ same_form b (Some ls) (Some rs) g fits j fair P s (f a) (e c) x z left_same right_same q w within
+
+        -- it says there what the form says after both calls
+        return_means : (l r : Bool) → Covers g l (P side.Left) xs T W → Covers g r (P side.Right) ys U V → (q : Term) → IsForm d q → IsWithin (reading P) q →
+            den g j (of_both_returns l r o p q) (here l r) ≡ den g j q (between s (assigned g.types left_base xs left_value) (assigned g.types right_base ys right_value))
+        return_means l r left_covers right_covers q w within =
+            returned_means l r (end l xs left_value) (end r ys right_value) (left_side_of l o (left_depth l r)) (left_side_of r p (right_depth l r)) (left_returned l r left_side_alone) (right_returned l r right_side_alone)
+            (assigned g.types left_base xs left_value) (assigned g.types right_base ys right_value) (left_reads l left_covers) (right_reads r right_covers) q w within
 
   -- what is said is said without a result that doesn't occur
   module _ (said q : Term) (l r : Bool) (said_narrow : IsForm (said_in l r) said) (end_form : IsForm d q) where
-    said_typed : IsForm (inside l r) (term_changed said (to_bound_values (bound_of_both l r o p)))
+    pub said_typed : IsForm (inside l r) (term_changed said (to_bound_values (bound_of_both l r o p)))
     said_typed =
         sided_typed b (Some (frame_if l R)) (Some (frame_if r S)) (Some ls) (Some rs) (X l r) (Y l r) (bound_of_both l r o p) refl (on_sides l r) (located_here l r) (λ z. tt) (λ z. tt)
         (λ x t k. subst (λ U. IsOneOf x U ⊎ IsIn (inside l r) (Some ls) x t) (sym (left_are l r)) (one_of l R W x t (said_in l r) (inside l r) ls (moved t ls) k))
@@ -402,7 +405,7 @@ module _ (b : Context) (ls rs : List TypedName) (R S : Ty) (W V : List TypedVari
         right_outcome false y t i e =
             said_without_result b None (Some (frame_if l R)) (Some (frame_if false S)) g (over (frame_if l R) (frame_if false S)) n k U right_differs V right_globals (Q side.Right) right_said right_alone y t i e
 
-        said_means : den g j (term_changed said (to_bound_values (bound_of_both l r o p))) inner_state ≡ den g j said (between s h k)
+        pub said_means : den g j (term_changed said (to_bound_values (bound_of_both l r o p))) inner_state ≡ den g j said (between s h k)
         said_means =
             let A : Memory = overwritten g.types (of_side side.Left (bound_of_both l r o p)) h m in
             let B : Memory = overwritten g.types (of_side side.Right (bound_of_both l r o p)) k n in

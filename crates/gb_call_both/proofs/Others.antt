@@ -6,7 +6,7 @@ use Rattle.gb_steps.specs.declared.step.Acts.{Acts}
 use Rattle.gb_steps.specs.declared.step.Acts.TheVariants as on
 use Rattle.gb_steps.specs.declared.step.Contract.{Contract}
 use Rattle.gb_steps.specs.declared.step.Rule.{Rule}
-use Rattle.gb_steps.specs.declared.step.Rule.TheVariants.{OnBodies, Relational, Chance, Probability, Call, CallKnown, Ambient, Smt, Linear, Rewrite, Transform, Use, While}
+use Rattle.gb_steps.specs.declared.step.Rule.TheVariants.{OnBodies, Relational, Chance, Probability, Call, CallKnown, Abstract, Ambient, Smt, Linear, Rewrite, Transform, Use, While}
 use Rattle.gb_goal.specs.Scope.{Declarations}
 use Rattle.gb_goal.specs.Goal.Goal.{ambient}
 use Rattle.gb_goal.specs.Rows.{refusing}
@@ -21,6 +21,7 @@ no_body ds s on.Right f = refl
 pub others_refused : (ds : Declarations) (r : Rule) (f : Term) → rule_row ds r (ambient f) ≡ refusing Shape
 others_refused ds (Call s) f = no_body ds s s.acts f
 others_refused ds (CallKnown a k) f = refl
+others_refused ds (Abstract k) f = refl
 others_refused ds (While i) f = refl
 others_refused ds (Transform a t) f = refl
 others_refused ds (OnBodies r) f = refl

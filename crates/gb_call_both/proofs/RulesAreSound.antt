@@ -4,7 +4,7 @@ use Rattle.gb_goal.specs.declared.sequent.Sequent.{Sequent}
 use Rattle.gb_goal.specs.Scope.{Declarations}
 use Rattle.gb_holds.specs.Declared.{declared}
 use Rattle.gb_steps.specs.declared.step.Rule.{Rule}
-use Rattle.gb_steps.specs.declared.step.Rule.TheVariants.{OnBodies, Relational, Smt, Linear, Ambient, Chance, Probability, Call, CallKnown, Rewrite, Transform, Use, While}
+use Rattle.gb_steps.specs.declared.step.Rule.TheVariants.{OnBodies, Relational, Smt, Linear, Ambient, Chance, Probability, Call, CallKnown, Abstract, Rewrite, Transform, Use, While}
 use Rattle.gb_typing.specs.Context.{Context}
 use Rattle.gb_typing.specs.Scopes.{context_of, IsTypedScope}
 use Rattle.gb_typing.specs.Sequents.{of_sequent, IsTypedSequent}
@@ -29,5 +29,6 @@ module _ (ds : Declarations) (scoped : IsTypedScope (declared ds)) (q : Sequent)
   each_sound (Chance r) outer ls rs G w y Gs e = refused_given Shape Gs e
   each_sound (Probability r) outer ls rs G w y Gs e = refused_given Shape Gs e
   each_sound (CallKnown a f) outer ls rs G w y Gs e = refused_given Shape Gs e
+  each_sound (Abstract k) outer ls rs G w y Gs e = refused_given Shape Gs e
   each_sound (While i) outer ls rs G w y Gs e = refused_given Shape Gs e
   each_sound (Transform a i) outer ls rs G w y Gs e = refused_given Shape Gs e

@@ -61,7 +61,7 @@ pub struct Meant {
 pub type AllMeant = Items<Meant>;
 
 /// Variables behind others, with the result of an outcome, where it occurs.
-fn with_result(
+pub fn with_result(
     alloc: Global,
     found: AllMeant,
     occurs: bool,
@@ -101,7 +101,7 @@ fn with_globals(
 }
 
 /// The globals of two outcomes.
-fn globals_of(
+pub fn globals_of(
     alloc: Global,
     found: AllMeant,
     left: &Outcome<'_>,
@@ -128,7 +128,11 @@ fn bound_of_both(
 }
 
 /// Bound values in the places of variables, behind other changes.
-fn to_bound_values(alloc: Global, before: Changes, list: &[Meant]) -> Result<Changes, AllocError>
+pub fn to_bound_values(
+    alloc: Global,
+    before: Changes,
+    list: &[Meant],
+) -> Result<Changes, AllocError>
     ensures { IfOk result (λ made. made ≡ before ++ to_bound_values (map bound_seen list.now)) }
 {
     let mut changes = before;
@@ -142,7 +146,7 @@ fn to_bound_values(alloc: Global, before: Changes, list: &[Meant]) -> Result<Cha
 }
 
 /// A form for all values of variables.
-fn for_all(alloc: Global, list: &[Meant], form: Form) -> Result<Form, AllocError>
+pub fn for_all(alloc: Global, list: &[Meant], form: Form) -> Result<Form, AllocError>
     ensures { IfOk result (λ made. made ≡ for_all (map bound_seen list.now) form) }
 {
     let mut all = form;
@@ -155,7 +159,7 @@ fn for_all(alloc: Global, list: &[Meant], form: Form) -> Result<Form, AllocError
 }
 
 /// A result goes to the left side, where it occurs; so many variables are bound inside of it.
-fn left_side_within(
+pub fn left_side_within(
     alloc: Global,
     occurs: bool,
     outcome: &Outcome<'_>,

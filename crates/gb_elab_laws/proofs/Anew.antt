@@ -46,7 +46,7 @@ use Rattle.gb_elab_laws.proofs.Occurring.{reads_stand}
 use Rattle.gb_elab_laws.proofs.OneProcedure.{condition}
 
 -- no locals, of a memory that there is
-no_locals : (F : Frame) → IsFrame F → AreIn true F []
+pub no_locals : (F : Frame) → IsFrame F → AreIn true F []
 no_locals F m = record { memory = m; there = λ x u e. absurd (none-some u e); finite = tt }
 
 memory_before : (o : Option ProcedureType) → IsThere o → IsFrame (before o)

@@ -52,7 +52,7 @@ use Rattle.gb_amb.specs.Witness.{at_memory}
 use Rattle.gb_typing.specs.Scopes.{context_of, IsTypedScope}
 use Rattle.gb_names.specs.Environment.{ambient}
 use Rattle.gb_elab.specs.Forms.{elaborated}
-use Rattle.gb_elab_mod.specs.OnPrograms.{acts, coupling_rule, couplings, drawing_rule, cut_of, functions_of, conseq_rule, case_of_bodies, of_bodies_rule, on_all, plain_rule, seq_rule, both_rule, chance_rule, judges_chance}
+use Rattle.gb_elab_mod.specs.OnPrograms.{acts, coupling_rule, couplings, drawing_rule, cut_of, functions_of, conseq_rule, case_of_bodies, of_bodies_rule, plain_rule, seq_rule, both_rule, chance_rule, judges_chance}
 use Rattle.gb_elab_mod.specs.Steps.{asked_of, conclusion_rule, formed, case_of_conclusion, sided_case_rule, typed_rule, step_given, asks_for_locals, memory_witness, value_witness, witness_rule}
 use Rattle.gb_elab_mod.specs.Multiples.{hypothesis_at, multiples, position}
 use Rattle.gb_elab_mod.specs.Uses.{all_hinted, defined_operator, hypothesis, used, is_memory, memory_of}
@@ -61,6 +61,7 @@ use Rattle.gb_elab_prog.specs.Unbuilt.{absent}
 use Rattle.gb_elab_laws.specs.Fitting.{IsFormTypeIf, IsWanted}
 use Rattle.gb_elab_laws.proofs.Betweens.{of_transitive}
 use Rattle.gb_elab_laws.proofs.Contracts.{of_call}
+use Rattle.gb_elab_laws.proofs.Keeping.{of_entering}
 use Rattle.gb_elab_laws.proofs.Conditions.{of_by}
 use Rattle.gb_elab_laws.proofs.Transformings.{of_inlining, of_passing, of_placed}
 use Rattle.gb_elab_laws.proofs.Turning.{of_while}
@@ -144,6 +145,7 @@ module _ (ds : scope.Declarations) (scoped : IsTypedScope (declared ds)) (q : Se
   without_forms (rule.Chance r) n = tt
   without_forms (rule.Probability r) n = tt
   without_forms (rule.Call s) n = tt
+  without_forms (rule.Abstract r) n = tt
   without_forms (rule.CallKnown a f) n = absurd (false≢true (sym n))
   without_forms (rule.While i) n = tt
   without_forms (rule.Transform a t) n = tt
@@ -292,7 +294,7 @@ module _ (ds : scope.Declarations) (scoped : IsTypedScope (declared ds)) (q : Se
   rule_forms : (n : Kind) (x : List ℕ) (xs : List Node) (p : Place) (k : Rule) → typed_rule ds q n x xs p ≡ given k → HasForms k
   rule_forms text.PlainStep x [] p k h =
       let o = given_bind (conclusion_rule x p) (λ (a : AmbientRule). given (rule.Ambient a)) k h in brings o.0 (plain_typed x p o.0 o.1) k (given_is (rule.Ambient o.0) k o.2)
-  rule_forms text.CallStep x (b ∷ n ∷ []) p k h = of_call ds q HasForms (λ s. tt) (λ a n f e lemmas alone. (used_typed ds scoped q t lemmas alone n f e, tt)) tt (acts (parts_of b)) (head_of n) (parts_of n) p k h
+  rule_forms text.CallStep x (b ∷ n ∷ []) p k h = of_call ds q HasForms (λ s. tt) (λ a n f e lemmas alone. (used_typed ds scoped q t lemmas alone n f e, tt)) (λ n f e. tt) tt (acts (parts_of b)) (head_of n) (parts_of n) p k h
   rule_forms text.WhileStep x (b ∷ f ∷ []) p k h = of_while ds q HasForms (λ v. tt) tt (acts (parts_of b)) f k h
   rule_forms text.Inline x (b ∷ n ∷ []) p k h = of_inlining HasForms (λ a t. tt) ds q (acts (parts_of b)) (parts_of n) p k h
   rule_forms text.ByStep x (m ∷ n ∷ []) p k h = of_by ds q m n HasForms (λ b e z g. tt) (λ b e z g. tt) tt x p k h
@@ -304,9 +306,7 @@ module _ (ds : scope.Declarations) (scoped : IsTypedScope (declared ds)) (q : Se
       brings (conclusion.Have (text_of n) z.0) (form_typed f z.0 z.1) k (given_is (rule.Ambient (conclusion.Have (text_of n) z.0)) k z.2)
   rule_forms text.Transitivity x (b ∷ n ∷ []) p k h = of_transitive ds q HasForms (λ u. tt) tt (acts (parts_of b)) (head_of n) (parts_of n) p k h
   rule_forms text.Rnd x (b ∷ fs) p k h = of_drawing (acts (parts_of b)) (functions_of fs) k h
-  rule_forms text.Proc x (b ∷ i ∷ []) p k h =
-      let y = given_bind (absent (parts_of i) p) (λ _. given (rule.OnBodies (on_all (acts (parts_of b)) on_bodies.Proc))) k h in
-      other (rule.OnBodies (on_all (acts (parts_of b)) on_bodies.Proc)) k refl (given_is (rule.OnBodies (on_all (acts (parts_of b)) on_bodies.Proc)) k y.2)
+  rule_forms text.Proc x (b ∷ i ∷ []) p k h = of_entering ds q HasForms (λ a. tt) (λ n f e. tt) tt (acts (parts_of b)) (parts_of i) p k h
   rule_forms text.BodyStep x (b ∷ []) p k h = of_name x (acts (parts_of b)) p k (bytes_eq x (codes "hoare")) (bytes_eq x (codes "symmetry")) (bytes_eq x (codes "sim")) h
   rule_forms text.Seq x (b ∷ n ∷ ns ∷ f ∷ bounds ∷ []) p k h =
       let o = given_bind (absent (parts_of bounds) p) (λ _. of_bodies_rule (seq_rule ds q (acts (parts_of b)) (cut_of n (parts_of ns)) f)) k h in

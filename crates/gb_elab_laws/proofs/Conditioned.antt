@@ -36,6 +36,7 @@ use Rattle.gb_elab_laws.proofs.Betweens.{related_typed}
 use Rattle.gb_elab_laws.proofs.Compared.{BoundedThere, BothThere, bounded_there, both_there}
 use Rattle.gb_elab_laws.proofs.Conditions.{of_by}
 use Rattle.gb_elab_laws.proofs.Contracts.{of_call}
+use Rattle.gb_elab_laws.proofs.Keeping.{of_entering}
 use Rattle.gb_elab_laws.proofs.EventLaws.{of_splitting}
 use Rattle.gb_elab_laws.proofs.Events.{after_typed}
 use Rattle.gb_elab_laws.proofs.Forms.{elaborated_typed}
@@ -115,5 +116,6 @@ pub conditions_typed : (ds : scope.Declarations) → IsTypedScope (declared ds) 
     IsTypedRule (of_sequent (context_of (declared ds)) q t.frames) s.rule ls rs (goal_of q.conclusion)
 conditions_typed ds scoped q t n s h ls rs w =
     of_step ds q (λ k. IsTypedRule (of_sequent (context_of (declared ds)) q t.frames) k ls rs (goal_of q.conclusion)) (others ds scoped q t ls rs)
-    (of_call ds q (λ k. IsTypedRule (of_sequent (context_of (declared ds)) q t.frames) k ls rs (goal_of q.conclusion)) (λ s. tt) (λ a n f e. tt) tt) (by_typed ds scoped q t ls rs w)
+    (of_call ds q (λ k. IsTypedRule (of_sequent (context_of (declared ds)) q t.frames) k ls rs (goal_of q.conclusion)) (λ s. tt) (λ a n f e. tt) (λ n f e. tt) tt)
+    (of_entering ds q (λ k. IsTypedRule (of_sequent (context_of (declared ds)) q t.frames) k ls rs (goal_of q.conclusion)) (λ a. tt) (λ n f e. tt) tt) (by_typed ds scoped q t ls rs w)
     (λ e. of_splitting ds q e (λ k. IsTypedRule (of_sequent (context_of (declared ds)) q t.frames) k ls rs (goal_of q.conclusion)) (λ f i u g. tt) tt) n s h

@@ -37,7 +37,7 @@ use Rattle.gb_typing.specs.Typing.{IsForm, IsThere, before, after}
 use Rattle.gb_typing.specs.Goals.{IsGoalOver}
 use Rattle.gb_names.specs.Environment.{ambient, relational, unary}
 use Rattle.gb_elab.specs.Forms.{elaborated}
-use Rattle.gb_elab_mod.specs.OnPrograms.{call_rule, contract_at, contract_of, contract_of_both, last_procedure, params_if, procedure_called, result_if, contract_on}
+use Rattle.gb_elab_mod.specs.OnPrograms.{call_rule, calls_by, contract_at, contract_of, contract_of_both, last_procedure, params_if, procedure_called, result_if, contract_on}
 use Rattle.gb_elab_mod.specs.Steps.{step_given}
 use Rattle.gb_elab_mod.specs.Uses.{used}
 use Rattle.gb_call.specs.Call.{IsContract}
@@ -51,6 +51,7 @@ use Rattle.gb_elab_laws.proofs.EventLaws.{of_splitting}
 use Rattle.gb_elab_laws.proofs.Forms.{elaborated_typed}
 use Rattle.gb_elab_laws.proofs.Given.{given_bind, given_is}
 use Rattle.gb_elab_laws.proofs.Judged.{condition as conditions}
+use Rattle.gb_elab_laws.proofs.Keeping.{of_entering, of_kept}
 use Rattle.gb_elab_laws.proofs.OneProcedure.{condition}
 use Rattle.gb_elab_laws.proofs.Steps.{IsOther, of_step}
 
@@ -188,6 +189,7 @@ module _ (ds : scope.Declarations) (scoped : IsTypedScope (declared ds)) (q : Se
 
     call_typed : (a : Acts) (n : Kind) (ns : List Node) (p : Place) (k : Rule) → call_rule ds q a n ns p ≡ given k → CallTyped k
     call_typed a text.CallContract (m ∷ n ∷ []) p k h = at_goal (goal_of q.conclusion) refl w a m n k h
+    call_typed a text.CallInvariant (n ∷ []) p k h = of_kept ds q CallTyped calls_by tt (λ n f e. tt) a n k h
     call_typed a text.CallLemma (n ∷ []) p k h =
         let x = given_bind (used ds q n) (λ (f : Term). given (rule.CallKnown a f)) k h in subst CallTyped (given_is (rule.CallKnown a x.0) k x.2) tt
     call_typed a _ _ p k h = cc
@@ -198,5 +200,6 @@ pub call_step_typed : (ds : scope.Declarations) → IsTypedScope (declared ds) �
     IsTypedRule (of_sequent (context_of (declared ds)) q t.frames) s.rule ls rs (goal_of q.conclusion)
 call_step_typed ds scoped q t n s h ls rs w =
     of_step ds q (λ k. IsTypedRule (of_sequent (context_of (declared ds)) q t.frames) k ls rs (goal_of q.conclusion)) (others ds scoped q t ls rs) (call_typed ds scoped q t ls rs w)
+    (of_entering ds q (λ k. IsTypedRule (of_sequent (context_of (declared ds)) q t.frames) k ls rs (goal_of q.conclusion)) (λ a. tt) (λ n f e. tt) tt)
     (λ m n. of_by ds q m n (λ k. IsTypedRule (of_sequent (context_of (declared ds)) q t.frames) k ls rs (goal_of q.conclusion)) (λ b e z g. tt) (λ b e z g. tt) tt)
     (λ e. of_splitting ds q e (λ k. IsTypedRule (of_sequent (context_of (declared ds)) q t.frames) k ls rs (goal_of q.conclusion)) (λ f i u g. tt) tt) n s h

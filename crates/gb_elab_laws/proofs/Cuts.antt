@@ -55,6 +55,7 @@ use Rattle.gb_bodies.specs.Rows.{IsTypedRule}
 use Rattle.gb_elab_laws.proofs.Betweens.{of_transitive}
 use Rattle.gb_elab_laws.proofs.Anew.{conseq_rule_typed}
 use Rattle.gb_elab_laws.proofs.Contracts.{of_call}
+use Rattle.gb_elab_laws.proofs.Keeping.{of_entering}
 use Rattle.gb_elab_laws.proofs.Conditions.{of_by}
 use Rattle.gb_elab_laws.proofs.Transformings.{of_inlining, of_passing, of_placed}
 use Rattle.gb_elab_laws.proofs.EventLaws.{of_event_law, of_splitting}
@@ -241,8 +242,7 @@ module _ (ds : scope.Declarations) (scoped : IsTypedScope (declared ds)) (q : Se
     of_rule text.Transitivity x (b ∷ n ∷ []) p k h = of_transitive ds q TypedAt (λ u. tt) tt (acts (parts_of b)) (head_of n) (parts_of n) p k h
     of_rule text.Rnd x (b ∷ fs) p k h = of_drawing (acts (parts_of b)) (functions_of fs) k h
     of_rule text.Proc x (b ∷ i ∷ []) p k h =
-        let y = given_bind (absent (parts_of i) p) (λ _. given (rule.OnBodies (on_all (acts (parts_of b)) on_bodies.Proc))) k h in
-        subst TypedAt (given_is (rule.OnBodies (on_all (acts (parts_of b)) on_bodies.Proc)) k y.2) (all_typed (goal_of q.conclusion) (acts (parts_of b)) on_bodies.Proc tt)
+        of_entering ds q TypedAt (λ a. all_typed (goal_of q.conclusion) a on_bodies.Proc tt) (λ n f e. tt) tt (acts (parts_of b)) (parts_of i) p k h
     of_rule text.BodyStep x (b ∷ []) p k h = name_typed x (acts (parts_of b)) p k (bytes_eq x (codes "hoare")) (bytes_eq x (codes "symmetry")) (bytes_eq x (codes "sim")) h
     of_rule text.Seq x (b ∷ n ∷ ns ∷ f ∷ bounds ∷ []) p k h =
         let o = given_bind (absent (parts_of bounds) p) (λ _. of_bodies_rule (seq_rule ds q (acts (parts_of b)) (cut_of n (parts_of ns)) f)) k h in
@@ -251,7 +251,7 @@ module _ (ds : scope.Declarations) (scoped : IsTypedScope (declared ds)) (q : Se
     of_rule text.Conseq x (b ∷ f ∷ g ∷ d ∷ []) p k h =
         let y = given_bind (conseq_rule ds q (acts (parts_of b)) (parts_of f) (parts_of g) (parts_of d)) (λ z. given (rule.OnBodies z)) k h in
         subst TypedAt (given_is (rule.OnBodies y.0) k y.2) (conseq_rule_typed ds scoped q t ls rs (goal_of q.conclusion) w refl (acts (parts_of b)) (parts_of f) (parts_of g) (parts_of d) y.0 y.1)
-    of_rule text.CallStep x (b ∷ n ∷ []) p k h = of_call ds q TypedAt (λ s. tt) (λ a n f e. tt) tt (acts (parts_of b)) (head_of n) (parts_of n) p k h
+    of_rule text.CallStep x (b ∷ n ∷ []) p k h = of_call ds q TypedAt (λ s. tt) (λ a n f e. tt) (λ n f e. tt) tt (acts (parts_of b)) (head_of n) (parts_of n) p k h
     of_rule text.PlainStep x [] p k h =
         let o = given_bind (conclusion_rule x p) (λ (a : AmbientRule). given (rule.Ambient a)) k h in subst TypedAt (given_is (rule.Ambient o.0) k o.2) tt
     of_rule text.WhileStep x (b ∷ f ∷ []) p k h = while_typed (acts (parts_of b)) f k h

@@ -1,5 +1,5 @@
 -- Operators of typed forms.
-use Rattle.std.proofs.Common.{◌≡◌, true, false, List, [], ◌∷◌, is_none, refl, sym, ◌∙◌, subst, Bool, Option}
+use Rattle.std.proofs.Common.{◌≡◌, true, List, [], ◌∷◌, is_none, refl, sym, ◌∙◌, subst, Bool, Option}
 use Rattle.gb_core.specs.declared.place.Place.{Place}
 use Rattle.gb_core.specs.declared.refusal.Why.TheVariants.{TypeMismatch, Argument}
 use Rattle.gb_core.specs.declared.ty.Ty.{Ty}

@@ -26,6 +26,7 @@ use Rattle.gb_elab_mod.specs.Steps.{step_given}
 use Rattle.gb_elab_laws.proofs.Anew.{fits, result_stands}
 use Rattle.gb_elab_laws.proofs.Conditions.{of_by}
 use Rattle.gb_elab_laws.proofs.Contracts.{of_call}
+use Rattle.gb_elab_laws.proofs.Keeping.{of_entering}
 use Rattle.gb_elab_laws.proofs.EventLaws.{BringsNone, of_splitting}
 use Rattle.gb_elab_laws.proofs.Fits.{goal_procedure}
 use Rattle.gb_elab_laws.proofs.Forms.{elaborated_typed}
@@ -63,7 +64,8 @@ module _ (ds : scope.Declarations) (scoped : IsTypedScope (declared ds)) (q : Se
 
   event_typed : (n : Node) (s : Step) → step_given ds q n ≡ given s → HasEvent s.rule
   event_typed n s h =
-      of_step ds q HasEvent others (of_call ds q HasEvent (λ s. tt) (λ a n f e. tt) tt) (λ m n. of_by ds q m n HasEvent (λ b e z g. tt) (λ b e z g. tt) tt)
+      of_step ds q HasEvent others (of_call ds q HasEvent (λ s. tt) (λ a n f e. tt) (λ n f e. tt) tt) (of_entering ds q HasEvent (λ a. tt) (λ n f e. tt) tt)
+      (λ m n. of_by ds q m n HasEvent (λ b e z g. tt) (λ b e z g. tt) tt)
       (λ e. of_splitting ds q e HasEvent (λ f d u g. after_typed e f (known_there f d) u g) tt) n s h
 
   pub events_typed : (n : Node) (s : Step) → step_given ds q n ≡ given s → (f : ProcRef) (u : Term) → s.rule ≡ rule.Rewrite (rewrite_rule.Law (Split f u)) → IsForm (with_own here (after (procedure here f))) u

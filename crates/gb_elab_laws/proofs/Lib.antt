@@ -15,6 +15,8 @@ pub mod Leaves
 pub mod Equations
 pub mod Quantified
 pub mod Judged
+pub mod Keeping
+pub mod Kept
 pub mod OneProcedure
 pub mod Probable
 pub mod Tested

@@ -52,7 +52,7 @@ use Rattle.gb_names.specs.Environment.{Environment, of_function}
 use Rattle.gb_elab.specs.Forms.{function}
 use Rattle.gb_elab_mod.specs.Occurring.{occurring}
 use Rattle.gb_operators.specs.Literals.{place_inside}
-use Rattle.gb_elab_mod.specs.OnPrograms.{acts, cut_of, last_sampled, functions, of_bodies_rule, on_all, one_type, plain_rule, conseq_rule, case_of_bodies, seq_rule, there_and_back, of_bodies, couplings, drawing_rule, coupling_rule, functions_of, both_rule, chance_rule, judges_chance}
+use Rattle.gb_elab_mod.specs.OnPrograms.{acts, cut_of, last_sampled, functions, of_bodies_rule, one_type, plain_rule, conseq_rule, case_of_bodies, seq_rule, there_and_back, of_bodies, couplings, drawing_rule, coupling_rule, functions_of, both_rule, chance_rule, judges_chance}
 use Rattle.gb_elab_mod.specs.Steps.{conclusion_rule, case_of_conclusion, formed, sided_case_rule, typed_rule, step_given, asked_of, witness_rule}
 use Rattle.gb_elab_mod.specs.Multiples.{hypothesis_at, multiples, position}
 use Rattle.gb_elab_mod.specs.Uses.{all_hinted, defined_operator, hypothesis, used}
@@ -65,6 +65,7 @@ use Rattle.gb_typing.specs.Samplings.{Sampling, last_sampling}
 use Rattle.gb_equiv.specs.Rnd.{IsFunction, AreFunctions, AreBetween, AreTypedFunctions}
 use Rattle.gb_elab_laws.proofs.Betweens.{transitive_typed}
 use Rattle.gb_elab_laws.proofs.Contracts.{of_call}
+use Rattle.gb_elab_laws.proofs.Keeping.{of_entering}
 use Rattle.gb_elab_laws.proofs.Conditions.{of_by}
 use Rattle.gb_elab_laws.proofs.Transformings.{of_inlining, of_passing, of_placed}
 use Rattle.gb_elab_laws.proofs.Turning.{of_while}
@@ -218,6 +219,7 @@ module _ (ds : scope.Declarations) (scoped : IsTypedScope (declared ds)) (q : Se
       untouched (rule.Chance r) n = tt
       untouched (rule.Probability r) n = tt
       untouched (rule.Call r) n = tt
+      untouched (rule.Abstract r) n = tt
       untouched (rule.Smt fs) n = tt
       untouched (rule.Linear ms) n = tt
       untouched (rule.Ambient r) n = tt
@@ -272,9 +274,7 @@ module _ (ds : scope.Declarations) (scoped : IsTypedScope (declared ds)) (q : Se
 
       of_rule : (n : Kind) (x : List ℕ) (xs : List Node) (p : Place) (k : Rule) → typed_rule ds q n x xs p ≡ given k → Asked k
       of_rule text.Rnd x (b ∷ fs) p k h = of_drawing (acts (parts_of b)) (functions_of fs) k h
-      of_rule text.Proc x (b ∷ i ∷ []) p k h =
-          let y = given_bind (absent (parts_of i) p) (λ _. given (rule.OnBodies (on_all (acts (parts_of b)) on_bodies.Proc))) k h in
-          other (rule.OnBodies (on_all (acts (parts_of b)) on_bodies.Proc)) k refl (given_is (rule.OnBodies (on_all (acts (parts_of b)) on_bodies.Proc)) k y.2)
+      of_rule text.Proc x (b ∷ i ∷ []) p k h = of_entering ds q Asked (λ a. tt) (λ n f e. tt) tt (acts (parts_of b)) (parts_of i) p k h
       of_rule text.BodyStep x (b ∷ []) p k h = of_name x (acts (parts_of b)) p k (bytes_eq x (codes "hoare")) (bytes_eq x (codes "symmetry")) (bytes_eq x (codes "sim")) h
       of_rule text.Seq x (b ∷ n ∷ ns ∷ f ∷ bounds ∷ []) p k h =
           let o = given_bind (absent (parts_of bounds) p) (λ _. of_bodies_rule (seq_rule ds q (acts (parts_of b)) (cut_of n (parts_of ns)) f)) k h in
@@ -284,7 +284,7 @@ module _ (ds : scope.Declarations) (scoped : IsTypedScope (declared ds)) (q : Se
           let y = given_bind (conseq_rule ds q (acts (parts_of b)) (parts_of f) (parts_of g) (parts_of d)) (λ z. given (rule.OnBodies z)) k h in
           other (rule.OnBodies y.0) k refl (given_is (rule.OnBodies y.0) k y.2)
       of_rule text.CallStep x (b ∷ n ∷ []) p k h =
-          of_call ds q Asked (λ s. tt) (λ a n f e. tt) tt (acts (parts_of b)) (head_of n) (parts_of n) p k h
+          of_call ds q Asked (λ s. tt) (λ a n f e. tt) (λ n f e. tt) tt (acts (parts_of b)) (head_of n) (parts_of n) p k h
       of_rule text.Transitivity x (b ∷ n ∷ []) p k h = transitive_typed ds scoped q t ls rs w (acts (parts_of b)) (head_of n) (parts_of n) p k h
       of_rule text.PlainStep x [] p k h =
           let o = given_bind (conclusion_rule x p) (λ (a : AmbientRule). given (rule.Ambient a)) k h in other (rule.Ambient o.0) k refl (given_is (rule.Ambient o.0) k o.2)

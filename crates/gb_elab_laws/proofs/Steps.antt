@@ -27,7 +27,7 @@ use Rattle.gb_script.specs.declared.tree.Node.{Node}
 use Rattle.gb_script.specs.Tree.{head_of, text_of, parts_of, place_of}
 use Rattle.gb_chances.specs.First.{first_procedure}
 use Rattle.gb_elab_mod.specs.Multiples.{hypothesis_at, multiples, position}
-use Rattle.gb_elab_mod.specs.OnPrograms.{acts, both_rule, by_rule, call_rule, case_of_bodies, chance_rule, conseq_rule, coupling_rule, couplings, cut_of, drawing_rule, functions_of, judges_chance, of_bodies_rule, on_all, plain_rule, seq_rule}
+use Rattle.gb_elab_mod.specs.OnPrograms.{acts, both_rule, by_rule, call_rule, case_of_bodies, chance_rule, conseq_rule, coupling_rule, couplings, cut_of, drawing_rule, entering_rule, functions_of, judges_chance, of_bodies_rule, plain_rule, seq_rule}
 use Rattle.gb_elab_mod.specs.Steps.{case_of_conclusion, conclusion_rule, formed, sided_case_rule, splitting_rule, step_given, typed_rule, witness_rule}
 use Rattle.gb_elab_mod.specs.Taken.{new_name}
 use Rattle.gb_elab_mod.specs.Uses.{all_hinted, defined_operator, hypothesis, used}
@@ -38,9 +38,10 @@ use Rattle.gb_elab_laws.proofs.Given.{given_bind, given_is}
 use Rattle.gb_elab_laws.proofs.Transformings.{of_inlining, of_passing, of_placed}
 use Rattle.gb_elab_laws.proofs.Turning.{of_while}
 
--- a step of another kind than one by what is said of procedures, or of what stands after them
+-- a step of another kind than one by what is said of procedures, by what oracles keep, or by what is said of what stands after procedures
 abbrev pub IsOther : Rule → Type 0
 IsOther (rule.Call s) = ⊥
+IsOther (rule.Abstract r) = ⊥
 IsOther (rule.Probability (ByEquiv s)) = ⊥
 IsOther (rule.Probability (ByPhoare s)) = ⊥
 IsOther (rule.Rewrite (rewrite_rule.Law l)) = BringsNone l
@@ -67,6 +68,7 @@ both_other r on.Right = tt
 -- What holds of each step of another kind, and of those that are made of what is said of procedures, holds of each typed step.
 module _ (ds : Declarations) (q : Sequent) (P : Rule → Type 0) (others : (k : Rule) → IsOther k → P k)
     (called : (a : Acts) (j : Kind) (ns : List Node) (p : Place) (k : Rule) → call_rule ds q a j ns p ≡ given k → P k)
+    (entering : (a : Acts) (ns : List Node) (p : Place) (k : Rule) → entering_rule ds q a ns p ≡ given k → P k)
     (compared : (m n : Node) (x : List ℕ) (p : Place) (k : Rule) → by_rule ds q x m n p ≡ given k → P k)
     (divided : (e : Node) (k : Rule) → splitting_rule ds q e (first_procedure q.conclusion) ≡ given k → P k) where
   other : (j k : Rule) → IsOther j → given j ≡ given k → P k
@@ -115,8 +117,7 @@ module _ (ds : Declarations) (q : Sequent) (P : Rule → Type 0) (others : (k : 
       let y = given_bind (formed ds q f) (λ (u : Term). given (rule.Ambient (conclusion.Have (text_of n) u))) k o.2 in other (rule.Ambient (conclusion.Have (text_of n) y.0)) k tt y.2
   of_rule text.Transitivity x (b ∷ n ∷ []) p k h = of_transitive ds q P (λ u. others (rule.Relational (relational_rule.Transitivity u)) tt) (others (rule.OnBodies on_bodies.Unfit) tt) (acts (parts_of b)) (head_of n) (parts_of n) p k h
   of_rule text.Rnd x (b ∷ fs) p k h = of_drawing (acts (parts_of b)) (functions_of fs) k h
-  of_rule text.Proc x (b ∷ i ∷ []) p k h =
-      let y = given_bind (absent (parts_of i) p) (λ _. given (rule.OnBodies (on_all (acts (parts_of b)) on_bodies.Proc))) k h in other (rule.OnBodies (on_all (acts (parts_of b)) on_bodies.Proc)) k tt y.2
+  of_rule text.Proc x (b ∷ i ∷ []) p k h = entering (acts (parts_of b)) (parts_of i) p k h
   of_rule text.BodyStep x (b ∷ []) p k h = of_name x (acts (parts_of b)) p k (bytes_eq x (codes "hoare")) (bytes_eq x (codes "symmetry")) (bytes_eq x (codes "sim")) h
   of_rule text.Seq x (b ∷ n ∷ ns ∷ f ∷ bounds ∷ []) p k h =
       let o = given_bind (absent (parts_of bounds) p) (λ _. of_bodies_rule (seq_rule ds q (acts (parts_of b)) (cut_of n (parts_of ns)) f)) k h in

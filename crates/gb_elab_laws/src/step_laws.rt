@@ -9,8 +9,9 @@ ghost use Rattle.gb_terms.specs.declared.term.Term.{Term};
 ghost use Rattle.gb_script.specs.declared.tree.Node.{Node};
 ghost use Rattle.gb_goal.specs.Scope as scope;
 ghost use Rattle.gb_goal.specs.declared.sequent.Sequent.{Sequent};
+ghost use Rattle.gb_steps.specs.declared.step.AbstractRule.{AbstractRule};
 ghost use Rattle.gb_steps.specs.declared.step.AmbientRule.{AmbientRule};
-ghost use Rattle.gb_steps.specs.declared.step.Rule.TheVariants.{Ambient, Rewrite, Use};
+ghost use Rattle.gb_steps.specs.declared.step.Rule.TheVariants.{Abstract, Ambient, Rewrite, Use};
 ghost use Rattle.gb_steps.specs.declared.step.EventLaw.TheVariants.{Split};
 ghost use Rattle.gb_steps.specs.declared.step.RewriteRule.TheVariants.{Law};
 ghost use Rattle.gb_steps.specs.declared.step.UseRule.{UseRule};
@@ -32,6 +33,7 @@ ghost use Rattle.gb_bodies.specs.Rows as bodies;
 ghost use Rattle.gb_pr.specs.Rows as probabilities;
 ghost use Rattle.gb_relational.specs.Rows.{IsTypedRule};
 ghost use Rattle.gb_call_both.specs.Rows as calls;
+ghost use Rattle.gb_adv.specs.Rows as adversaries;
 ghost use Rattle.gb_amb.specs.Steps.{IsTypedStep};
 ghost use Rattle.gb_use.specs.Lemmas.{IsKnown};
 ghost use Rattle.gb_use.specs.Uses as uses;
@@ -43,7 +45,8 @@ pub fn locals_read()
 
 /// The arguments of a typed step at a typed goal are typed over the locals of the bodies: the functions of `rnd` between the values of
 /// the samplings that end both bodies, the forms of `seq`, `case` and `conseq`, what relates two procedures to the one between, what a
-/// called procedure is said to do, and what is said before and after procedures whose probabilities a goal compares, in a typed scope.
+/// called procedure is said to do, what oracles of an abstract one are said to keep, and what is said before and after procedures whose
+/// probabilities a goal compares, in a typed scope.
 pub fn typed_rules()
     ensures bodies { (ds : scope.Declarations) → IsTypedScope (declared ds) → (q : Sequent) (t : IsTypedSequent (context_of (declared ds)) q) →
         (n : Node) (s : Step) → step_given ds q n ≡ given s →
@@ -57,6 +60,9 @@ pub fn typed_rules()
         (n : Node) (s : Step) → step_given ds q n ≡ given s →
         (ls rs : List TypedName) → IsGoalOver (of_sequent (context_of (declared ds)) q t.frames) ls rs (goal_of q.conclusion) →
         calls.IsTypedRule (of_sequent (context_of (declared ds)) q t.frames) s.rule ls rs (goal_of q.conclusion) }
+    ensures adversaries { (ds : scope.Declarations) → IsTypedScope (declared ds) → (q : Sequent) (t : IsTypedSequent (context_of (declared ds)) q) →
+        (n : Node) (s : Step) → step_given ds q n ≡ given s → (r : AbstractRule) → s.rule ≡ Abstract r → (ls rs : List TypedName) →
+        adversaries.IsTypedRule (of_sequent (context_of (declared ds)) q t.frames) r ls rs (goal_of q.conclusion) }
     ensures probabilities { (ds : scope.Declarations) → IsTypedScope (declared ds) → (q : Sequent) (t : IsTypedSequent (context_of (declared ds)) q) →
         (n : Node) (s : Step) → step_given ds q n ≡ given s →
         (ls rs : List TypedName) → IsGoalOver (of_sequent (context_of (declared ds)) q t.frames) ls rs (goal_of q.conclusion) →

@@ -21,6 +21,7 @@ use Rattle.gb_terms.specs.declared.term.Cmd.{Cmd}
 use Rattle.gb_goal.specs.declared.sequent.Sequent.{Sequent}
 use Rattle.gb_steps.specs.declared.step.Rule.{Rule}
 use Rattle.gb_steps.specs.declared.step.Rule.TheVariants as rule
+use Rattle.gb_steps.specs.declared.step.AbstractRule.TheVariants as abstract_rule
 use Rattle.gb_steps.specs.declared.step.BodyRule.{BodyRule}
 use Rattle.gb_steps.specs.declared.step.BodyRule.TheVariants as on_bodies
 use Rattle.gb_steps.specs.declared.step.ChanceRule.TheVariants as with_chance
@@ -318,9 +319,40 @@ contract_at ds s a pre post (phoare (body is) r p q b) = contract_of ds s a pre 
 contract_at ds s a pre post (equiv (body is) (body js) p q) = contract_on ds s a pre post is js
 contract_at ds s a pre post G = given (rule.OnBodies on_bodies.Unfit)
 
--- The rules on calls by what the procedures are said to do, and by a judgment of them that is known, are built.
+-- What a step says that oracles keep. It reads no local of a program; goals that are no judgments without a probability give it no type.
+unfoldable pub kept_of : Declarations → Sequent → Node → Goal → Answer (Option Term)
+kept_of ds s r (hoare a p q) = do
+  f ← elaborated r (unary ds s []) [] (Some bool_ty)
+  given (Some f)
+kept_of ds s r (equiv a b p q) = do
+  f ← elaborated r (relational ds s [] []) [] (Some bool_ty)
+  given (Some f)
+kept_of ds s r G = given None
+
+-- the same of a step that acts on these programs: on one of two none is kept
+abbrev pub kept_on : Declarations → Sequent → Acts → Node → Answer (Option Term)
+kept_on ds s on.All r = kept_of ds s r (goal_of s.conclusion)
+kept_on ds s a r = given None
+
+abbrev pub calls_by : Option Term → Rule
+calls_by (Some f) = rule.Abstract (abstract_rule.Call f)
+calls_by None = rule.OnBodies on_bodies.Unfit
+
+abbrev pub procedures_by : Option Term → Rule
+procedures_by (Some f) = rule.Abstract (abstract_rule.Proc f)
+procedures_by None = rule.OnBodies on_bodies.Unfit
+
+-- `proc`: into the procedures of a judgment, or, of abstract modules, by what their oracles keep
+abbrev pub entering_rule : Declarations → Sequent → Acts → List Node → Place → Answer Rule
+entering_rule ds s a [] p = given (rule.OnBodies (on_all a on_bodies.Proc))
+entering_rule ds s a (r ∷ []) p = kept_on ds s a r >>= λ f. given (procedures_by f)
+entering_rule ds s a rs p = not_built p
+
+-- The rules on calls are built by what the procedures are said to do, by what the oracles of abstract ones keep, and by a judgment that is
+-- known.
 abbrev pub call_rule : Declarations → Sequent → Acts → Kind → List Node → Place → Answer Rule
 call_rule ds s a text.CallContract (pre ∷ post ∷ []) p = contract_at ds s a pre post (goal_of s.conclusion)
+call_rule ds s a text.CallInvariant (r ∷ []) p = kept_on ds s a r >>= λ f. given (calls_by f)
 call_rule ds s a text.CallLemma (t ∷ []) p = do
   f ← used ds s t
   given (rule.CallKnown a f)

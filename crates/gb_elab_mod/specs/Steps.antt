@@ -42,7 +42,7 @@ use Rattle.gb_names.specs.Judgments.{named_procedure}
 use Rattle.gb_elab.specs.Forms.{elaborated}
 use Rattle.gb_elab_mod.specs.OtherLocals.{reads_other_locals}
 use Rattle.gb_elab_mod.specs.Multiples.{hypothesis_at, multiples, position}
-use Rattle.gb_elab_mod.specs.OnPrograms.{functions_of, acts, drawing_rule, on_all, cut_of, seq_rule, of_bodies_rule, named_rule, case_of_bodies, while_rule, result_if, conseq_rule, call_rule, by_rule, transitive_rule}
+use Rattle.gb_elab_mod.specs.OnPrograms.{functions_of, acts, drawing_rule, entering_rule, cut_of, seq_rule, of_bodies_rule, named_rule, case_of_bodies, while_rule, result_if, conseq_rule, call_rule, by_rule, transitive_rule}
 use Rattle.gb_elab_mod.specs.Taken.{new_name}
 use Rattle.gb_elab_mod.specs.Uses.{about_named, all_hinted, defined_operator, hypothesis, used, is_memory, memory_of}
 use Rattle.gb_elab_prog.specs.Unbuilt.{absent}
@@ -227,9 +227,7 @@ have_rule ds g n f = do
 
 -- a rule or a pattern
 abbrev pub typed_rule : Declarations → Sequent → Kind → List ℕ → List Node → Place → Answer Rule
-typed_rule ds g text.Proc x (b ∷ invariant ∷ []) p = do
-  _ ← absent (parts_of invariant) p
-  given (rule.OnBodies (on_all (acts (parts_of b)) on_bodies.Proc))
+typed_rule ds g text.Proc x (b ∷ invariant ∷ []) p = entering_rule ds g (acts (parts_of b)) (parts_of invariant) p
 typed_rule ds g text.Rnd x (b ∷ fs) p = drawing_rule ds g (acts (parts_of b)) (functions_of fs)
 typed_rule ds g text.BodyStep x (b ∷ []) p = named_rule x (acts (parts_of b)) p
 typed_rule ds g text.Seq x (b ∷ n ∷ ns ∷ r ∷ bounds ∷ []) p = do

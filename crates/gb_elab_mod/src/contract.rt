@@ -1,4 +1,4 @@
-// The typing of what procedures are said to do, and of `call`, by that and by what is known.
+// The typing of what procedures are said to do, and of `call`, by that, by what oracles keep, and by what is known.
 
 ghost use Rattle.std.specs.Prelude.{◌≡◌, [], None, Some, IfOk};
 ghost use Rattle.std.specs.Option.{option_copied};
@@ -11,6 +11,7 @@ ghost use Rattle.gb_elab.specs.Forms.{elaborated};
 ghost use Rattle.gb_names.specs.Environment.{relational, unary};
 ghost use Rattle.gb_elab_mod.specs.OnPrograms.{call_rule, contract_at, contract_of, contract_of_both, contract_on, last_procedure, params_if, procedure_called, related, result_if, said_around};
 
+use crate::kept::calls_rule;
 use crate::uses::used;
 use gb_core::place::Place;
 use gb_core::refusal::Refused;
@@ -291,6 +292,7 @@ pub fn call_rule(
             let said = Said { pre, post };
             contract_at(alloc, scope, goal, acts, said, goal_of(&goal.conclusion))
         }
+        (Head::CallInvariant, [kept]) => calls_rule(alloc, scope, goal, acts, kept),
         (Head::CallLemma, [known]) => Ok(Rule::CallKnown(acts, used(alloc, scope, goal, known)?)),
         _ => Err(not_built(place)),
     }

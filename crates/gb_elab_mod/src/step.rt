@@ -2,10 +2,8 @@
 
 ghost use Rattle.std.specs.Prelude.{◌≡◌};
 ghost use Rattle.gb_script.specs.Tree.{parts_of};
-ghost use Rattle.gb_elab_prog.specs.Unbuilt.{absent};
-ghost use Rattle.gb_goal.specs.Answers.{Answers, ◌>>=◌ as ◌and_then◌};
-ghost use Rattle.gb_goal.specs.Answers.Answer.{given};
-ghost use Rattle.gb_elab_mod.specs.OnPrograms.{acts, both_rule, chance_rule, named_rule, on_all, plain_rule};
+ghost use Rattle.gb_goal.specs.Answers.{Answers};
+ghost use Rattle.gb_elab_mod.specs.OnPrograms.{acts, both_rule, chance_rule, entering_rule, named_rule, on_all, plain_rule};
 ghost use Rattle.gb_elab_mod.specs.Steps.{equals_rule, event_rule, looping_rule, pattern, step_given, transforming_rule, typed_rule, used_rule};
 
 use crate::between::transitive_rule;
@@ -16,6 +14,7 @@ use crate::couplings::{drawing_rule, functions_of};
 use crate::cut::{Cutting, position, seq_rule, while_rule};
 use crate::equals::{opening, rewriting, rewriting_back, rewriting_by_name, substitution};
 use crate::events::{event_law_rule, splitting_rule};
+use crate::kept::procedures_rule;
 use crate::multiples::linear_rule;
 use crate::probabilities::by_rule;
 use crate::transforming::{inlining_rule, passing_rule, placed_rule};
@@ -24,7 +23,6 @@ use crate::witness::witness_rule;
 use gb_core::name::Name;
 use gb_core::place::Place;
 use gb_core::refusal::Refused;
-use gb_elab_prog::unbuilt::refuse_any;
 use gb_goal::scope::Scope;
 use gb_goal::sequent::Sequent;
 use gb_names::refusals::not_built;
@@ -323,12 +321,22 @@ fn looping_rule(
     }
 }
 
-/// The rule that goes into the procedures of a judgment, which has no invariant.
-fn entering_rule(acts: Acts, invariant: &[Node], place: Place) -> Result<Rule, Refused>
-    ensures { Answers (absent invariant.now place and_then λ _. given (Rule.OnBodies (on_all acts BodyRule.Proc))) result }
+/// The rule that goes into the procedures of a judgment, or, of abstract modules, by what their oracles keep.
+fn entering_rule(
+    alloc: Global,
+    scope: &Scope,
+    goal: &Sequent,
+    acts: Acts,
+    kept: &[Node],
+    place: Place,
+) -> Result<Rule, Refused>
+    ensures { Answers (entering_rule scope.now goal.now acts kept.now place) result }
 {
-    refuse_any(invariant, place)?;
-    Ok(Rule::OnBodies(on_all(acts, BodyRule::Proc)))
+    match kept {
+        [] => Ok(Rule::OnBodies(on_all(acts, BodyRule::Proc))),
+        [kept] => procedures_rule(alloc, scope, goal, acts, kept),
+        _ => Err(not_built(place)),
+    }
 }
 
 /// The rule of a step or of a pattern, with its arguments typed.
@@ -345,7 +353,8 @@ fn typed_rule(
 {
     match (head, parts) {
         (Head::Proc, [bodies, invariant]) => {
-            entering_rule(acts_of(bodies), invariant.parts.as_slice(), place)
+            let kept = invariant.parts.as_slice();
+            entering_rule(alloc, scope, goal, acts_of(bodies), kept, place)
         }
         (Head::Rnd, [bodies, functions @ ..]) => {
             drawing_rule(alloc, scope, goal, acts_of(bodies), functions_of(functions))

@@ -7,7 +7,7 @@ use Rattle.gb_goal.specs.Goal.Goal.{ambient}
 use Rattle.gb_goal.specs.Rows.{refusing}
 use Rattle.gb_goal.specs.Scope.{Declarations}
 use Rattle.gb_steps.specs.declared.step.Rule.{Rule}
-use Rattle.gb_steps.specs.declared.step.Rule.TheVariants.{OnBodies, Relational, Chance, Probability, Ambient, Smt, Linear, Call, CallKnown, Rewrite, Transform, Use, While}
+use Rattle.gb_steps.specs.declared.step.Rule.TheVariants.{OnBodies, Relational, Chance, Probability, Ambient, Smt, Linear, Call, CallKnown, Abstract, Rewrite, Transform, Use, While}
 use Rattle.gb_steps.specs.declared.step.ChanceRule.TheVariants.{Rnd, Hoare}
 use Rattle.gb_holds.specs.Declared.{declared}
 use Rattle.gb_typing.specs.Scopes.{context_of, IsTypedScope}
@@ -29,6 +29,7 @@ module _ (ds : Declarations) (scoped : IsTypedScope (declared ds)) (q : Sequent)
   each_sound (Linear ms) outer ls rs G w y Gs e = refused_given Shape Gs e
   each_sound (Call s) outer ls rs G w y Gs e = refused_given Shape Gs e
   each_sound (CallKnown a f) outer ls rs G w y Gs e = refused_given Shape Gs e
+  each_sound (Abstract k) outer ls rs G w y Gs e = refused_given Shape Gs e
   each_sound (While i) outer ls rs G w y Gs e = refused_given Shape Gs e
   each_sound (Transform a i) outer ls rs G w y Gs e = refused_given Shape Gs e
   each_sound (Rewrite r) outer ls rs G w y Gs e = refused_given Shape Gs e
@@ -45,6 +46,7 @@ others_refused ds (Smt fs) f = refl
 others_refused ds (Linear ms) f = refl
 others_refused ds (Call s) f = refl
 others_refused ds (CallKnown a h) f = refl
+others_refused ds (Abstract k) f = refl
 others_refused ds (While i) f = refl
 others_refused ds (Transform a i) f = refl
 others_refused ds (Rewrite r) f = refl

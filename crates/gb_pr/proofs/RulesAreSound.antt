@@ -3,7 +3,7 @@ use Rattle.gb_core.specs.declared.refusal.Why.TheVariants.{Shape}
 use Rattle.gb_goal.specs.declared.sequent.Sequent.{Sequent}
 use Rattle.gb_goal.specs.Scope.{Declarations}
 use Rattle.gb_steps.specs.declared.step.Rule.{Rule}
-use Rattle.gb_steps.specs.declared.step.Rule.TheVariants.{OnBodies, Relational, Chance, Probability, Ambient, Smt, Linear, Call, CallKnown, Rewrite, Transform, Use, While}
+use Rattle.gb_steps.specs.declared.step.Rule.TheVariants.{OnBodies, Relational, Chance, Probability, Ambient, Smt, Linear, Call, CallKnown, Abstract, Rewrite, Transform, Use, While}
 use Rattle.gb_steps.specs.declared.step.ProbabilityRule.TheVariants.{ByEquiv, ByPhoare, ByEvents, Within}
 use Rattle.gb_holds.specs.Declared.{declared}
 use Rattle.gb_typing.specs.Scopes.{context_of, IsTypedScope}
@@ -29,6 +29,7 @@ module _ (ds : Declarations) (scoped : IsTypedScope (declared ds)) (q : Sequent)
   each_sound (Linear ms) outer ls rs G w y Gs e = refused_given Shape Gs e
   each_sound (Call s) outer ls rs G w y Gs e = refused_given Shape Gs e
   each_sound (CallKnown a f) outer ls rs G w y Gs e = refused_given Shape Gs e
+  each_sound (Abstract k) outer ls rs G w y Gs e = refused_given Shape Gs e
   each_sound (While i) outer ls rs G w y Gs e = refused_given Shape Gs e
   each_sound (Transform a i) outer ls rs G w y Gs e = refused_given Shape Gs e
   each_sound (Rewrite r) outer ls rs G w y Gs e = refused_given Shape Gs e

@@ -5,7 +5,7 @@ use Rattle.gb_terms.specs.declared.term.Term.{Term}
 use Rattle.gb_steps.specs.declared.step.Acts.TheVariants as on
 use Rattle.gb_steps.specs.declared.step.RelationalRule.TheVariants.{Rnd, Symmetry, Drawn, Transitivity, Sim}
 use Rattle.gb_steps.specs.declared.step.Rule.{Rule}
-use Rattle.gb_steps.specs.declared.step.Rule.TheVariants.{OnBodies, Relational, Ambient, Smt, Linear, Chance, Probability, Call, CallKnown, Rewrite, Transform, Use, While}
+use Rattle.gb_steps.specs.declared.step.Rule.TheVariants.{OnBodies, Relational, Ambient, Smt, Linear, Chance, Probability, Call, CallKnown, Abstract, Rewrite, Transform, Use, While}
 use Rattle.gb_goal.specs.Goal.Goal.{ambient}
 use Rattle.gb_goal.specs.Rows.{refusing}
 use Rattle.gb_goal.specs.Scope.{Declarations}
@@ -27,6 +27,7 @@ others_refused ds (Chance r) f = refl
 others_refused ds (Probability r) f = refl
 others_refused ds (Call s) f = refl
 others_refused ds (CallKnown a h) f = refl
+others_refused ds (Abstract k) f = refl
 others_refused ds (While i) f = refl
 others_refused ds (Transform a i) f = refl
 others_refused ds (Rewrite r) f = refl

@@ -23,7 +23,8 @@ use Rattle.gb_spelt_laws.proofs.Forms.{as_result}
 use Rattle.gb_spelt_laws.specs.Rules.{AreNamedArguments, AreNamedGlobals, AreNamedOperators, AreNamedProcedures}
 use Rattle.gb_shown.specs.Trees.{IsFull, IsFullTree}
 use Rattle.gb_shown.specs.Words.{IsReadNode, IsReadTree}
-use Rattle.gb_shown.proofs.FoundInScopes.{globals_named, operators_named, procedures_named}
+use Rattle.gb_shown.proofs.FoundInScopes.{globals_named, operators_named}
+use Rattle.gb_shown.proofs.KnownProcedures.{procedures_named}
 use Rattle.gb_shown.proofs.Forms.{elaborated_named, function_named}
 use Rattle.gb_shown.proofs.Leaves.{target_named}
 use Rattle.gb_shown.proofs.Spelled.{measured_named, spelled_good}

@@ -29,7 +29,8 @@ use Rattle.gb_typing.proofs.Located.{typed_there}
 use Rattle.gb_variants.specs.Variants.{goals_of, over_none, zero_of}
 use Rattle.gb_shown.specs.Scopes.{IsNamedScope}
 use Rattle.gb_shown.specs.Words.{HasItsNames, IsReadNode, IsReadTree}
-use Rattle.gb_shown.proofs.FoundInScopes.{found_written, names_found, procedures_named}
+use Rattle.gb_shown.proofs.FoundInScopes.{found_written, names_found}
+use Rattle.gb_shown.proofs.KnownProcedures.{procedures_named}
 use Rattle.gb_shown.proofs.Later.{scope_later}
 use Rattle.gb_shown.proofs.Paths.{name_is_path, path_behind}
 use Rattle.gb_theory.specs.Built.{Session, OpenProof, with_goals, with_proved}

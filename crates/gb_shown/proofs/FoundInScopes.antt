@@ -19,9 +19,8 @@ use Rattle.gb_goal.specs.declared.scope.Entry.TheVariants as entry
 use Rattle.gb_shapes.specs.declared.place.Enumeration.{Enumeration}
 use Rattle.gb_readback.specs.Written.{is_name_text, is_path, IsWrittenModule, IsWrittenProcedure}
 use Rattle.gb_spelt_laws.specs.Named.{IsNamedVariable}
-use Rattle.gb_spelt_laws.specs.Rules.{IsNamedLocal, AreNamedProcedures, AreNamedGlobals, AreNamedOperators}
+use Rattle.gb_spelt_laws.specs.Rules.{IsNamedLocal, AreNamedGlobals, AreNamedOperators}
 use Rattle.gb_shown.specs.Scopes.{IsNamedMember, IsNamedModule, IsNamedEntry, IsNamedScope}
-use Rattle.gb_shown.proofs.Asked.{asked_named}
 use Rattle.gb_shown.proofs.Instances.{EachWritten, arguments_written, instance_named, name_written}
 use Rattle.gb_shown.proofs.Later.{all_so}
 
@@ -82,15 +81,9 @@ module _ (es : List Enumeration) where
       by_suits true j = by_proc (proc_of m.procs x) refl j
       by_suits false j = absurd (cc)
 
-  at_named : (ds : Declarations) → IsNamedScope es ds → (m : Mexp) → IsWrittenModule [] m → (x : List ℕ) (p : Proc) → proc_at ds m x ≡ Some p → IsNamedMember es p
+  pub at_named : (ds : Declarations) → IsNamedScope es ds → (m : Mexp) → IsWrittenModule [] m → (x : List ℕ) (p : Proc) → proc_at ds m x ≡ Some p → IsNamedMember es p
   at_named ds k (mexp.Name m) w x p i = in_named (module_of ds m) x p (λ n j. module_named ds k m n j) i
   at_named ds k (Apply' m c args) w x p i = instance_found ds (module_of ds m) (mexps_in args) (arguments_written (Apply' m c args) w).1 x p (λ n j. module_named ds k m n j) i
-
-  pub procedures_named : (ds : Declarations) → IsNamedScope es ds → AreNamedProcedures es ds
-  procedures_named ds k = record {
-    declared = λ f w p i. (let n = at_named ds k f.«module» w.module_is f.name p i in n.procedure);
-    asked = asked_named es ds k;
-  }
 
   -- what a name stands for is declared under a path
   pub name_found : (ds : Declarations) → IsNamedScope es ds → (x : List ℕ) (e : Entry) → entry_of ds x ≡ Some e → is_path x ≡ true

@@ -10,6 +10,7 @@ mod Types
 mod FoundInForms
 mod Asked
 mod Interfaces
+mod KnownProcedures
 mod NamedModules
 mod Spelled
 mod MadeForms

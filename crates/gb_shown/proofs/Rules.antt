@@ -49,7 +49,7 @@ use Rattle.gb_names.specs.Environment.{Environment, ambient as ambient_in, relat
 use Rattle.gb_names.specs.Judgments.{Named as Reference, functor_procedure, named_procedure}
 use Rattle.gb_elab.specs.Forms.{elaborated}
 use Rattle.gb_elab_mod.specs.Multiples.{hypothesis_at, multiples, position}
-use Rattle.gb_elab_mod.specs.OnPrograms.{functions_of, acts, on_all, plain_rule, cut_of, chance_rule, both_rule, named_rule, params_if, result_if, last_procedure, contract_of, contract_of_both, contract_on, contract_at, call_rule, related, said_around, by_phoare_rule, by_equiv_rule, by_rule, between_of, procedures_of, Contracts, contracts, between_by, between_words, between_functor, between_at, transitive_rule}
+use Rattle.gb_elab_mod.specs.OnPrograms.{functions_of, acts, calls_by, entering_rule, kept_of, kept_on, procedures_by, on_all, plain_rule, cut_of, chance_rule, both_rule, named_rule, params_if, result_if, last_procedure, contract_of, contract_of_both, contract_on, contract_at, call_rule, related, said_around, by_phoare_rule, by_equiv_rule, by_rule, between_of, procedures_of, Contracts, contracts, between_by, between_words, between_functor, between_at, transitive_rule}
 use Rattle.gb_elab_mod.specs.Steps.{conclusion_rule, formed, asked_of, value_witness, memory_witness, witness_rule, pattern, passing_rule, placed_rule, transforming_rule, event_law_rule, if_there, splitting_rule, event_rule, equals_rule, used_rule, calls_of, inlining_rule, looping_rule, have_rule, typed_rule, step_given}
 use Rattle.gb_elab_mod.specs.Taken.{new_name}
 use Rattle.gb_elab_mod.specs.Uses.{all_hinted, defined_operator, hypothesis, is_memory, memory_of, used}
@@ -58,7 +58,7 @@ use Rattle.gb_elab_laws.proofs.Given.{given_bind, given_is}
 use Rattle.gb_shapes.specs.declared.place.Enumeration.{Enumeration}
 use Rattle.gb_readback.specs.Written.{is_name_text}
 use Rattle.gb_spelt_laws.specs.Named.{IsNamedHead, IsNamed, IsNamedGoal, IsNamedSequent}
-use Rattle.gb_spelt_laws.specs.Rules.{AreNamedArguments, IsNamedRelational, IsNamedRule, IsNamedStep}
+use Rattle.gb_spelt_laws.specs.Rules.{AreNamedArguments, IsNamedIfAny, IsNamedRelational, IsNamedRule, IsNamedStep}
 use Rattle.gb_spelt_laws.proofs.Forms.{as_result}
 use Rattle.gb_spelt_laws.proofs.NamedGoals.{no_front}
 use Rattle.gb_spelt_laws.proofs.Trees.{parts_named}
@@ -309,11 +309,46 @@ module _ (forms : OfForms) (es : List Enumeration) (ds : Declarations) (k : IsNa
   contract_at_named a pre post l m (equiv (body is) (body js) p g) r e = contract_on_named a pre post l m is js r e
   contract_at_named a pre post l m _ r e = subst (AreNamedArguments es) (given_is _ r e) tt
 
+  -- What oracles keep.
+
+  kept_form_named : (t : Node) → IsReadTree t → (G : Goal) (o : Option Term) → kept_of ds q t G ≡ given o → IsNamedIfAny es o
+  unfolding kept_of
+  kept_form_named t l (hoare a p g) o e =
+      let b = given_bind (elaborated t (unary ds q []) [] (Some ty.Bool)) (λ (f : Term). given (Some f)) o e in
+      subst (IsNamedIfAny es) {x = Some b.0} (given_is (Some b.0) o b.2) (truth_named forms es ds k q n _ (unary_named es ds k q n [] tt) t l b.0 b.1)
+  kept_form_named t l (equiv a d p g) o e =
+      let b = given_bind (elaborated t (relational ds q [] []) [] (Some ty.Bool)) (λ (f : Term). given (Some f)) o e in
+      subst (IsNamedIfAny es) {x = Some b.0} (given_is (Some b.0) o b.2) (truth_named forms es ds k q n _ (relational_named es ds k q n [] [] tt tt) t l b.0 b.1)
+  kept_form_named t l _ o e = subst (IsNamedIfAny es) {x = None} (given_is None o e) tt
+
+  kept_on_named : (a : Acts) (t : Node) → IsReadTree t → (o : Option Term) → kept_on ds q a t ≡ given o → IsNamedIfAny es o
+  kept_on_named on.All t l o e = kept_form_named t l (goal_of q.conclusion) o e
+  kept_on_named on.Left t l o e = subst (IsNamedIfAny es) {x = None} (given_is None o e) tt
+  kept_on_named on.Right t l o e = subst (IsNamedIfAny es) {x = None} (given_is None o e) tt
+
+  calls_by_named : (o : Option Term) → IsNamedIfAny es o → AreNamedArguments es (calls_by o)
+  calls_by_named None h = tt
+  calls_by_named (Some f) h = h
+
+  procedures_by_named : (o : Option Term) → IsNamedIfAny es o → AreNamedArguments es (procedures_by o)
+  procedures_by_named None h = tt
+  procedures_by_named (Some f) h = h
+
+  entering_named : (a : Acts) (ns : List Node) → AreRead ns → (p : Place) → Gives (entering_rule ds q a ns p)
+  entering_named a [] l p r e = subst (AreNamedArguments es) (given_is _ r e) (on_all_named a on_bodies.Proc tt)
+  entering_named a (t ∷ []) l p r e =
+      let b = given_bind (kept_on ds q a t) (λ o. given (procedures_by o)) r e in subst (AreNamedArguments es) (given_is _ r b.2) (procedures_by_named b.0 (kept_on_named a t l.0 b.0 b.1))
+  entering_named a (t ∷ u ∷ ns) l p r e = none_built p r e
+
   call_named : (a : Acts) (h : Kind) (ns : List Node) → AreRead ns → (p : Place) → Gives (call_rule ds q a h ns p)
   call_named a text.CallContract (pre ∷ post ∷ []) l p r e = contract_at_named a pre post l.0 l.1.0 (goal_of q.conclusion) r e
   call_named a text.CallContract [] l p r e = none_built p r e
   call_named a text.CallContract (x ∷ []) l p r e = none_built p r e
   call_named a text.CallContract (x ∷ y ∷ z ∷ ns) l p r e = none_built p r e
+  call_named a text.CallInvariant (t ∷ []) l p r e =
+      let b = given_bind (kept_on ds q a t) (λ o. given (calls_by o)) r e in subst (AreNamedArguments es) (given_is _ r b.2) (calls_by_named b.0 (kept_on_named a t l.0 b.0 b.1))
+  call_named a text.CallInvariant [] l p r e = none_built p r e
+  call_named a text.CallInvariant (t ∷ u ∷ ns) l p r e = none_built p r e
   call_named a text.CallLemma (t ∷ []) l p r e = let b = given_bind (used ds q t) _ r e in subst (AreNamedArguments es) (given_is _ r b.2) (used_is_named forms es ds k q n t l.0 b.0 b.1)
   call_named a text.CallLemma [] l p r e = none_built p r e
   call_named a text.CallLemma (x ∷ y ∷ ns) l p r e = none_built p r e
@@ -444,7 +479,7 @@ module _ (forms : OfForms) (es : List Enumeration) (ds : Declarations) (k : IsNa
     looping_named h x ps v s l p r e = used_named h x ps v s l p r e
 
     typed_named : (h : Kind) (x : List ℕ) (ps : List Node) → (h ≡ text.Name → is_name_text x ≡ true) → HasItsNames h ps → AreRead ps → (p : Place) → Gives (typed_rule ds q h x ps p)
-    typed_named text.Proc x (b ∷ i ∷ []) v s l p r e = let a = given_bind (absent (parts_of i) p) _ r e in subst (AreNamedArguments es) (given_is _ r a.2) (on_all_named (acts (parts_of b)) on_bodies.Proc tt)
+    typed_named text.Proc x (b ∷ i ∷ []) v s l p r e = entering_named (acts (parts_of b)) (parts_of i) (parts_read i l.1.0) p r e
     typed_named text.Rnd x (b ∷ fs) v s l p r e = drawing_named forms es ds k q n c ls rs (acts (parts_of b)) (functions_of fs) (functions_read fs l.1) n.conclusion w r e
     typed_named text.BodyStep x (b ∷ []) v s l p r e = named_named x (acts (parts_of b)) p r e
     typed_named text.Seq x (b ∷ m ∷ ms ∷ t ∷ bounds ∷ []) v s l p r e =

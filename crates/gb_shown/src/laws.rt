@@ -37,6 +37,8 @@ pub fn shown_goals_are_read()
     gb_pr::laws::probability_rules();
     gb_call_both::laws::call_rules();
     gb_call_both::laws::other_conclusions();
+    gb_adv::laws::abstract_rules();
+    gb_adv::laws::refused_forms();
     gb_inline::laws::transforming_rules();
     gb_inline::laws::untransformed_forms();
     gb_beside::laws::decided_beside();
@@ -49,6 +51,7 @@ pub fn shown_goals_are_read()
     gb_accepted::end_laws::relational();
     gb_accepted::end_laws::chances();
     gb_accepted::end_laws::calls();
+    gb_accepted::end_laws::abstract_calls();
     gb_accepted::end_laws::known_calls();
     gb_accepted::end_laws::conclusions();
     gb_accepted::end_laws::equals();

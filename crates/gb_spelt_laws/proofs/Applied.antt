@@ -32,6 +32,7 @@ use Rattle.gb_theory.specs.Commands.{closed_unless, entering, entered, OnBoth, o
 use Rattle.gb_shapes.specs.declared.place.Enumeration.{Enumeration}
 use Rattle.gb_spelt_laws.specs.Named.{IsNamedSequent}
 use Rattle.gb_spelt_laws.specs.Rules.{AreNamedArguments, AreNamedGlobals, AreNamedOperators, AreNamedProcedures, IsNamedRelational, IsNamedRule, KeepsNames}
+use Rattle.gb_spelt_laws.proofs.AbstractCalls.{abstract_keep}
 use Rattle.gb_spelt_laws.proofs.Conclusions.{conclusions_keep}
 use Rattle.gb_spelt_laws.proofs.Programs.{given_bind, programs_keep}
 use Rattle.gb_spelt_laws.proofs.Rows.{stepped_keep}
@@ -112,6 +113,7 @@ module _ (es : List Enumeration) (ds : scope.Declarations) (globals : AreNamedGl
     applied_keep (rule.Ambient r) w place qs k = conclusions_keep es d q t n r w place qs k
     applied_keep (rule.Linear ms) w place qs e = linear_keeps ms place qs e
     applied_keep (rule.Use r) w place qs k = uses_keep es q n r w place qs k
+    applied_keep (rule.Abstract r) w place qs e = by_row _ (abstract_keep es ds globals procedures r w) place qs e
     applied_keep (rule.CallKnown a f) w place qs k = known_calls_keep es ds globals procedures a f w q n place qs k
     applied_keep (rule.Rewrite r) w place qs e = rewriting_kept es q n ds operators r w place qs (sym e)
     applied_keep (rule.OnBodies r) w place qs e = entered_keeps r w place qs e

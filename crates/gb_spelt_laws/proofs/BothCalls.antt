@@ -63,17 +63,17 @@ speaking_keeps s a Gs e = step (speaks s.pre || speaks s.post) e
 module _ (es : List Enumeration) where
   -- What is said before both calls.
 
-  result_have : (b : Bool) (o : Outcome) → NamedOutcome es o → HaveTypes (result_of b o)
+  pub result_have : (b : Bool) (o : Outcome) → NamedOutcome es o → HaveTypes (result_of b o)
   result_have true o m = (m.result, tt)
   result_have false o m = tt
 
-  globals_have : (o p : Outcome) → NamedOutcome es o → NamedOutcome es p → HaveTypes (globals_of o p)
+  pub globals_have : (o p : Outcome) → NamedOutcome es o → NamedOutcome es p → HaveTypes (globals_of o p)
   globals_have o p m n = have_append (in_memory o.side o.globals) (in_memory p.side p.globals) (have_in o.side o.globals m.globals) (have_in p.side p.globals n.globals)
 
   both_have : (b d : Bool) (o p : Outcome) → NamedOutcome es o → NamedOutcome es p → HaveTypes (bound_of_both b d o p)
   both_have b d o p m n = have_append (result_of b o) _ (result_have b o m) (have_append (result_of d p) (globals_of o p) (result_have d p n) (globals_have o p m n))
 
-  left_named : (b : Bool) (o : Outcome) (k : ℕ) → NamedOutcome es o → PutNamed es (left_side_of b o k)
+  pub left_named : (b : Bool) (o : Outcome) (k : ℕ) → NamedOutcome es o → PutNamed es (left_side_of b o k)
   left_named true o k m =
       put_named es o.side o.targets (taken o.targets _) (taken_named es o.targets _ (node_named es (head.Bound k) [] o.result m.result (as_result o.result m.result) tt))
   left_named false o k m = tt

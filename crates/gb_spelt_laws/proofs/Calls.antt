@@ -165,7 +165,7 @@ module _ (es : List Enumeration) where
   return_named : (b : Bool) (o : Outcome) (f : Term) → NamedOutcome o → IsNamed es f → IsNamed es (of_return b o f)
   return_named b o f m x = changed_named es f (left_side b o ++ global_values o) (puts_append es (left_side b o) (global_values o) (left_named b o m) (bound_values_named es (in_memory o.side o.globals) (have_in o.side o.globals m.globals))) x
 
-  where_named : (r : Rel) (b : Bool) (o : Outcome) (said f : Term) → NamedOutcome o → IsNamed es said → IsNamed es f → IsNamed es (after_where r b o said f)
+  pub where_named : (r : Rel) (b : Bool) (o : Outcome) (said f : Term) → NamedOutcome o → IsNamed es said → IsNamed es f → IsNamed es (after_where r b o said f)
   where_named r b o said f m x y =
       let W = in_memory o.side (bound_of b o) in
       let have = have_in o.side (bound_of b o) (bound_named b o m) in

@@ -24,6 +24,7 @@ pub mod AllValues
 pub mod Loops
 pub mod Calls
 pub mod BothCalls
+pub mod AbstractCalls
 pub mod Events
 pub mod Rewriting
 pub mod Variants

@@ -11,12 +11,15 @@ use Rattle.gb_terms.specs.declared.module.ProcRef.{ProcRef}
 use Rattle.gb_terms.specs.declared.term.Term.{Term}
 use Rattle.gb_goal.specs.Answers.Answer.{given}
 use Rattle.gb_goal.specs.Goal.{Goal}
+use Rattle.gb_goal.specs.Interfaces.{ProcedureType, procedure_type}
 use Rattle.gb_goal.specs.Rows.{Row}
 use Rattle.gb_goal.specs.Scope.{Declarations, abstract_of, entry_of, module_of, procedure_of}
 use Rattle.gb_goal.specs.declared.scope.Entry.TheVariants as entry
 use Rattle.gb_goal.specs.declared.scope.Operator.{Operator}
 use Rattle.gb_mods.specs.Meant.{meant_by}
 use Rattle.gb_mods.specs.declared.meant.Meant.TheVariants.{Any}
+use Rattle.gb_steps.specs.declared.step.AbstractRule.{AbstractRule}
+use Rattle.gb_steps.specs.declared.step.AbstractRule.TheVariants as abstract_rule
 use Rattle.gb_steps.specs.declared.step.AmbientRule.{AmbientRule}
 use Rattle.gb_steps.specs.declared.step.AmbientRule.TheVariants as ambient
 use Rattle.gb_steps.specs.declared.step.BodyRule.{BodyRule}
@@ -57,11 +60,16 @@ pub record IsNamedProcedure (es : List Enumeration) (p : Proc) : Type 0 where
   pub body : AllByRecursion (IsNamedInstr es) p.body.list
   pub value : IsNamed es p.value
 
+-- what a procedure takes, each with a name, and what it gives
+abbrev pub HasNamedTypes : ProcedureType → Type 0
+HasNamedTypes t = AllByRecursion (λ (x : TypedName). (is_path x.name ≡ true) × IsNamedType x.ty) t.params × IsNamedType t.result
+
 -- The procedures of the scope that a goal may speak of. What a declared one calls stands in place of its module's parameters; one of an
--- abstract module calls procedures that a goal may speak of, too, and its module has a name.
+-- abstract module calls procedures that a goal may speak of, too, and its module has a name. So have the parameters of each.
 pub record AreNamedProcedures (es : List Enumeration) (ds : Declarations) : Type 0 where
   pub declared : (f : ProcRef) → IsWrittenProcedure [] f → (p : Proc) → procedure_of ds f ≡ Some p → IsNamedProcedure es p
   pub asked : (f : ProcRef) → IsWrittenProcedure [] f → (a : List ℕ) (qs : List ProcRef) → meant_by ds f ≡ Any a qs → (is_path a ≡ true) × AllByRecursion (IsWrittenProcedure []) qs
+  pub types : (f : ProcRef) (t : ProcedureType) → procedure_type ds None f ≡ Some t → HasNamedTypes t
 
 -- the globals of each module of the scope, and the names of abstract ones, by which all of theirs are read together
 pub record AreNamedGlobals (ds : Declarations) : Type 0 where
@@ -137,6 +145,11 @@ IsNamedRewrite es (rewrite.Back f) = IsNamed es f
 IsNamedRewrite es (rewrite.Law l) = IsNamedLaw es l
 IsNamedRewrite es _ = Unit {0}
 
+-- what oracles are said to keep
+abbrev pub IsNamedKept : List Enumeration → AbstractRule → Type 0
+IsNamedKept es (abstract_rule.Call f) = IsNamed es f
+IsNamedKept es (abstract_rule.Proc f) = IsNamed es f
+
 -- the names and the forms that any rule is given
 abbrev pub AreNamedArguments : List Enumeration → Rule → Type 0
 AreNamedArguments es (rule.OnBodies r) = IsNamedRule es r
@@ -144,6 +157,7 @@ AreNamedArguments es (rule.Relational r) = IsNamedRelational es r
 AreNamedArguments es (rule.Probability r) = IsNamedProbability es r
 AreNamedArguments es (rule.Call s) = IsNamedContract es s
 AreNamedArguments es (rule.CallKnown a f) = IsNamed es f
+AreNamedArguments es (rule.Abstract r) = IsNamedKept es r
 AreNamedArguments es (rule.While v) = IsNamed es v.kept
 AreNamedArguments es (rule.Ambient r) = IsNamedStep es r
 AreNamedArguments es (rule.Use r) = IsNamedUse es r

@@ -31,6 +31,7 @@ pub enum Rule {
     Call(Contract),
     /// As by `Call`, by a judgment of the procedure that is known.
     CallKnown(Acts, Form),
+    Abstract(AbstractRule),
     While(Invariant),
     Transform(Acts, Transformation),
     Ambient(AmbientRule),
@@ -50,6 +51,7 @@ impl Drop for Rule {
             Rule::Probability(rule) => drop(rule),
             Rule::Call(contract) => drop(contract),
             Rule::CallKnown(_, judgment) => drop(judgment),
+            Rule::Abstract(rule) => drop(rule),
             Rule::While(invariant) => drop(invariant),
             Rule::Transform(_, rule) => drop(rule),
             Rule::Ambient(rule) => drop(rule),
@@ -184,6 +186,15 @@ pub struct Contract {
     pub acts: Acts,
     pub pre: Form,
     pub post: Form,
+}
+
+/// A rule on procedures of abstract modules, by a form that their oracles keep.
+#[derive(Drop)]
+pub enum AbstractRule {
+    /// The calls that end the programs.
+    Call(Form),
+    /// The procedures themselves.
+    Proc(Form),
 }
 
 /// What each turn keeps of the loops that end the programs on which a step acts.

@@ -75,6 +75,7 @@ module _
   applied ds (rule.Chance r) place q = (stepped (row_of ds (rule.Chance r)) place q, refl)
   applied ds (rule.Probability r) place q = (stepped (row_of ds (rule.Probability r)) place q, refl)
   applied ds (rule.Call s) place q = (stepped (row_of ds (rule.Call s)) place q, refl)
+  applied ds (rule.Abstract r) place q = (stepped (row_of ds (rule.Abstract r)) place q, refl)
   applied ds (rule.CallKnown a f) place q = known_calls.some_answer ds a f place q
   applied ds (rule.While i) place q = (stepped (row_of ds (rule.While i)) place q, refl)
   applied ds (rule.Transform a k) place q = (transformed ds a k place q, refl)

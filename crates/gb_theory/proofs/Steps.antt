@@ -21,6 +21,7 @@ use Rattle.gb_steps.specs.declared.step.Transformation.{Transformation}
 use Rattle.gb_steps.specs.declared.step.Transformation.TheVariants as transformation
 use Rattle.gb_beside.specs.Beside.{beside_answer}
 use Rattle.gb_inline.specs.Rows as transformations
+use Rattle.gb_steps.specs.declared.step.AbstractRule.{AbstractRule}
 use Rattle.gb_steps.specs.declared.step.AmbientRule.{AmbientRule}
 use Rattle.gb_steps.specs.declared.step.RewriteRule.{RewriteRule}
 use Rattle.gb_steps.specs.declared.step.UseRule.{UseRule}
@@ -37,6 +38,7 @@ use Rattle.gb_smt.specs.Apply.{IsResult}
 use Rattle.gb_amb.specs.Steps.{IsAnswer, Returns}
 use Rattle.gb_linear.specs.Closing.{linear_answer}
 use Rattle.gb_use.specs.Uses as uses
+use Rattle.gb_adv.specs.Rows.{abstract_row}
 use Rattle.gb_call_known.specs.Known as known_calls
 use Rattle.gb_sim.specs.Sim as same_statements
 use Rattle.gb_rewrite.specs.Rewriting.{rewrite_answer}
@@ -96,6 +98,13 @@ pub while_meets : (ds : Declarations) (r : Rule) (v : Invariant) (place : Place)
 while_meets ds r v place q result is h =
     subst (λ x. Meets (λ (y : List Sequent). y) (Applied ds x place q) result) (sym is)
     (gives_meets (λ (x : List Sequent). x) (Applied ds (rule.While v) place q) (stepped (while_row ds v.acts v.kept) place q) result h (λ x e. e))
+
+-- what a rule on procedures of abstract modules gives is what is applied
+pub abstract_meets : (ds : Declarations) (r : Rule) (b : AbstractRule) (place : Place) (q : Sequent) (result : Result (List Sequent) Refused)
+    → r ≡ rule.Abstract b → Answers (stepped (abstract_row ds b) place q) result → Meets (λ (x : List Sequent). x) (Applied ds r place q) result
+abstract_meets ds r b place q result is h =
+    subst (λ x. Meets (λ (y : List Sequent). y) (Applied ds x place q) result) (sym is)
+    (gives_meets (λ (x : List Sequent). x) (Applied ds (rule.Abstract b) place q) (stepped (abstract_row ds b) place q) result h (λ x e. e))
 
 pub both_meets : (ds : Declarations) (r : Rule) (b : RelationalRule) (place : Place) (q : Sequent) (result : Result (List Sequent) Refused)
     → r ≡ rule.Relational b → (b ≡ on_both.Sim → ⊥) → Answers (stepped (equiv.rule_row ds r) place q) result → Meets (λ (x : List Sequent). x) (Applied ds r place q) result

@@ -75,6 +75,7 @@ module _
   one_applied ds (rule.Chance r) place q x y h k = h ∙ sym k
   one_applied ds (rule.Probability r) place q x y h k = h ∙ sym k
   one_applied ds (rule.Call s) place q x y h k = h ∙ sym k
+  one_applied ds (rule.Abstract r) place q x y h k = h ∙ sym k
   one_applied ds (rule.CallKnown a f) place q x y h k = known_calls.one_answer ds a f place q x y h k
   one_applied ds (rule.While i) place q x y h k = h ∙ sym k
   one_applied ds (rule.Transform a t) place q x y h k = h ∙ sym k

@@ -35,6 +35,7 @@ use Rattle.gb_relational.specs.Rows as equiv
 use Rattle.gb_phoare.specs.Rows as chances
 use Rattle.gb_pr.specs.Rows as probabilities
 use Rattle.gb_call_both.specs.Rows as calls
+use Rattle.gb_adv.specs.Rows.{abstract_row}
 use Rattle.gb_call_known.specs.Known as known_calls
 use Rattle.gb_beside.specs.Beside.{beside_answer}
 use Rattle.gb_inline.specs.Rows as transformations
@@ -163,6 +164,7 @@ row_of ds (rule.Relational r) = equiv.rule_row ds (rule.Relational r)
 row_of ds (rule.Chance r) = chances.rule_row ds (rule.Chance r)
 row_of ds (rule.Probability r) = probabilities.rule_row ds (rule.Probability r)
 row_of ds (rule.Call s) = calls.rule_row ds (rule.Call s)
+row_of ds (rule.Abstract r) = abstract_row ds r
 row_of ds (rule.Transform a t) = transformations.rule_row ds (rule.Transform a t)
 row_of ds _ = λ G. refusing Shape
 

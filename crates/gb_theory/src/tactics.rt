@@ -153,6 +153,7 @@ fn apply(alloc: Global, step: &Step, goal: &Sequent, scope: &Scope) -> Result<Se
         Rule::CallKnown(acts, known) => {
             gb_call_known::apply(alloc, *acts, known, step.place, goal, scope)
         }
+        Rule::Abstract(rule) => gb_adv::apply::apply(alloc, rule, step.place, goal, scope),
         Rule::Ambient(rule) => gb_amb::apply::apply(alloc, rule, step.place, goal),
         Rule::Use(rule) => gb_use::apply::apply(alloc, rule, step.place, goal),
         Rule::Rewrite(rule) => gb_rewrite::goals::apply(alloc, rule, step.place, goal, scope),

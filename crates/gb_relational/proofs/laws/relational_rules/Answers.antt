@@ -1,6 +1,6 @@
 use Rattle.gb_core.specs.declared.refusal.Why.TheVariants.{Shape}
 use Rattle.gb_steps.specs.declared.step.Rule.{Rule}
-use Rattle.gb_steps.specs.declared.step.Rule.TheVariants.{Relational, OnBodies, Ambient, Smt, Linear, Chance, Probability, Call, CallKnown, Rewrite, Transform, Use, While}
+use Rattle.gb_steps.specs.declared.step.Rule.TheVariants.{Relational, OnBodies, Ambient, Smt, Linear, Chance, Probability, Call, CallKnown, Abstract, Rewrite, Transform, Use, While}
 use Rattle.gb_steps.specs.declared.step.RelationalRule.TheVariants.{Rnd, Symmetry, Drawn, Transitivity, Sim}
 use Rattle.gb_typing.specs.Context.{Context}
 use Rattle.gb_goal.specs.Goal.{Goal}
@@ -41,6 +41,7 @@ module _ (ds : Declarations) (scoped : IsTypedScope (declared ds)) (q : Sequent)
   rule_sound (Probability r) outer ls rs G w k Gs e = refused_given Shape Gs e
   rule_sound (Call s) outer ls rs G w k Gs e = refused_given Shape Gs e
   rule_sound (CallKnown a f) outer ls rs G w k Gs e = refused_given Shape Gs e
+  rule_sound (Abstract s) outer ls rs G w k Gs e = refused_given Shape Gs e
   rule_sound (While i) outer ls rs G w k Gs e = refused_given Shape Gs e
   rule_sound (Transform a i) outer ls rs G w k Gs e = refused_given Shape Gs e
   rule_sound (Rewrite r) outer ls rs G w k Gs e = refused_given Shape Gs e

@@ -3,7 +3,7 @@ use Rattle.gb_goal.specs.Answers.{Answers}
 use Rattle.gb_linear.specs.Closing.{linear_answer}
 use Rattle.gb_smt.specs.Leaves.{leaves_of}
 use Rattle.gb_smt.specs.Apply.{IsResult}
-use Rattle.gb_theory.proofs.Steps.{ambient_meets, body_meets, known_meets, linear_meets, programs_meet, rewrite_meets, smt_meets, use_meets, while_meets}
+use Rattle.gb_theory.proofs.Steps.{abstract_meets, ambient_meets, body_meets, known_meets, linear_meets, programs_meet, rewrite_meets, smt_meets, use_meets, while_meets}
 use Rattle.gb_theory.proofs.tactics.apply.Goals as goal
 
 pub returns-in-OnBodies : goal.returns-in-OnBodies
@@ -16,6 +16,10 @@ pub returns-in-CallKnown : goal.returns-in-CallKnown
 returns-in-CallKnown c =
     known_meets c.args.scope.now c.args.step.now.rule c.in-CallKnown.acts c.in-CallKnown.known c.args.step.now.place c.args.goal.now c.apply-in-CallKnown.result c.in-CallKnown.is
     c.apply-in-CallKnown.ensures
+
+pub returns-in-Abstract : goal.returns-in-Abstract
+returns-in-Abstract c =
+    abstract_meets c.args.scope.now c.args.step.now.rule c.in-Abstract.rule c.args.step.now.place c.args.goal.now c.apply-in-Abstract.result c.in-Abstract.is c.apply-in-Abstract.ensures
 
 pub returns-in-Smt : goal.returns-in-Smt
 returns-in-Smt c =

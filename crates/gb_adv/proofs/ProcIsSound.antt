@@ -1,0 +1,30 @@
+-- `proc (I)` is sound.
+use Rattle.gb_core.specs.declared.refusal.Why.TheVariants.{Shape}
+use Rattle.gb_terms.specs.declared.term.Term.{Term}
+use Rattle.gb_goal.specs.declared.sequent.Sequent.{Sequent}
+use Rattle.gb_goal.specs.Goal.Code.{body, procedure}
+use Rattle.gb_goal.specs.Goal.Goal.{hoare, phoare, equiv, ambient}
+use Rattle.gb_goal.specs.Scope.{Declarations}
+use Rattle.gb_holds.specs.Declared.{declared}
+use Rattle.gb_typing.specs.Context.{Context}
+use Rattle.gb_typing.specs.Rules.{IsSoundRuleIn}
+use Rattle.gb_typing.specs.Scopes.{context_of, IsTypedScope}
+use Rattle.gb_typing.specs.Sequents.{of_sequent, IsTypedSequent}
+use Rattle.gb_typing.proofs.Given.{refused_given}
+use Rattle.gb_adv.specs.Oracles.{IsTypedKept}
+use Rattle.gb_adv.specs.Proc.{proc_row}
+use Rattle.gb_adv.proofs.ProcOnBoth.{both_sound}
+use Rattle.gb_adv.proofs.ProcOnOne.{one_sound}
+
+module _ (ds : Declarations) (scoped : IsTypedScope (declared ds)) (t : Sequent) (typed : IsTypedSequent (context_of (declared ds)) t) (i : Term) where
+  abbrev c : Context
+  c = of_sequent (context_of (declared ds)) t typed.frames
+
+  pub sound : IsSoundRuleIn (declared ds) c (proc_row ds i) (IsTypedKept c i)
+  sound outer ls rs (hoare (procedure r) p q) w y Gs e = one_sound ds scoped t typed i outer ls rs r p q w y Gs e
+  sound outer ls rs (hoare (body is) p q) w y Gs e = refused_given Shape Gs e
+  sound outer ls rs (equiv (procedure r) (procedure s) p q) w y Gs e = both_sound ds scoped t typed i outer ls rs r s p q w y Gs e
+  sound outer ls rs (equiv (procedure r) (body js) p q) w y Gs e = refused_given Shape Gs e
+  sound outer ls rs (equiv (body is) b p q) w y Gs e = refused_given Shape Gs e
+  sound outer ls rs (phoare a r p q b) w y Gs e = refused_given Shape Gs e
+  sound outer ls rs (ambient f) w y Gs e = refused_given Shape Gs e

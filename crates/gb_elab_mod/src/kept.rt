@@ -1,0 +1,95 @@
+// What steps say that oracles of abstract procedures keep.
+
+ghost use Rattle.std.specs.Prelude.{◌≡◌};
+ghost use Rattle.gb_goal.specs.Answers.{Answers, ◌>>=◌ as ◌and_then◌};
+ghost use Rattle.gb_goal.specs.Answers.Answer.{given};
+ghost use Rattle.gb_goal.specs.Views.{goal_seen};
+ghost use Rattle.gb_elab_mod.specs.OnPrograms.{calls_by, kept_of, kept_on, procedures_by};
+
+use gb_core::refusal::Refused;
+use gb_core::ty::Ty;
+use gb_elab::form::typed;
+use gb_goal::goal::{Goal, goal_of};
+use gb_goal::scope::Scope;
+use gb_goal::sequent::Sequent;
+use gb_names::setting::Setting;
+use gb_script::tree::Node;
+use gb_steps::step::{AbstractRule, Acts, BodyRule, Rule};
+use gb_terms::term::Form;
+use std::alloc::Global;
+
+/// What oracles keep, at a judgment that is seen so. None at goals that give it no type.
+#[tactic(auto, unfolding(crate::specs::OnPrograms::kept_of))]
+fn kept_of(
+    alloc: Global,
+    scope: &Scope,
+    goal: &Sequent,
+    kept: &Node,
+    seen: Goal<'_>,
+) -> Result<Option<Form>, Refused>
+    ensures { Answers (kept_of scope.now goal.now kept.now (goal_seen seen.entry)) result }
+{
+    let setting = match seen {
+        Goal::Hoare(..) => Setting::unary(scope, goal, &[]),
+        Goal::Equiv(..) => Setting::relational(scope, goal, &[], &[]),
+        _ => return Ok(None),
+    };
+    let form = typed(alloc, &setting, &[], kept, Some(&Ty::Bool))?;
+    Ok(Some(form))
+}
+
+/// The same of a step that acts on these programs.
+fn kept_on(
+    alloc: Global,
+    scope: &Scope,
+    goal: &Sequent,
+    acts: Acts,
+    kept: &Node,
+) -> Result<Option<Form>, Refused>
+    ensures { Answers (kept_on scope.now goal.now acts kept.now) result }
+{
+    match acts {
+        Acts::All => kept_of(alloc, scope, goal, kept, goal_of(&goal.conclusion)),
+        _ => Ok(None),
+    }
+}
+
+/// The typed step of `call` by what oracles keep.
+///
+/// # Errors
+///
+/// Those of the form, which reads no locals of programs.
+pub fn calls_rule(
+    alloc: Global,
+    scope: &Scope,
+    goal: &Sequent,
+    acts: Acts,
+    kept: &Node,
+) -> Result<Rule, Refused>
+    ensures { Answers (kept_on scope.now goal.now acts kept.now and_then λ f. given (calls_by f)) result }
+{
+    match kept_on(alloc, scope, goal, acts, kept)? {
+        Some(kept) => Ok(Rule::Abstract(AbstractRule::Call(kept))),
+        None => Ok(Rule::OnBodies(BodyRule::Unfit)),
+    }
+}
+
+/// The typed step of `proc` by what oracles keep.
+///
+/// # Errors
+///
+/// Those of the form, which reads no locals of programs.
+pub fn procedures_rule(
+    alloc: Global,
+    scope: &Scope,
+    goal: &Sequent,
+    acts: Acts,
+    kept: &Node,
+) -> Result<Rule, Refused>
+    ensures { Answers (kept_on scope.now goal.now acts kept.now and_then λ f. given (procedures_by f)) result }
+{
+    match kept_on(alloc, scope, goal, acts, kept)? {
+        Some(kept) => Ok(Rule::Abstract(AbstractRule::Proc(kept))),
+        None => Ok(Rule::OnBodies(BodyRule::Unfit)),
+    }
+}
