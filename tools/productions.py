@@ -1,6 +1,6 @@
-"""Writes the productions that the proofs of gb_readback name, from script.txt.
+"""Writes the productions that the proofs of gb_print name, from script.txt.
 
-    python3 tools/productions.py crates/gb_readback
+    python3 tools/productions.py crates/gb_print
 
 A production is named by its part and its first symbols, as `variant_open_brace`, or `run_none` where its body is empty; the
 proofs name it through the alias `p`. Each gets its definition and the lemma that it is one of the grammar. Only those that some
@@ -97,7 +97,7 @@ def imports(text):
         "use Rattle.gb_script.specs.declared.action.Mark.TheVariants as mark",
         "use Rattle.gb_script.specs.declared.action.Rule.{Rule}",
         "use Rattle.gb_script.specs.declared.head.Head.TheVariants as head",
-        "use Rattle.gb_readback.proofs.Productions.Table.{grammar, listed}",
+        "use Rattle.gb_print.proofs.Productions.Table.{grammar, listed}",
     ]
 
 

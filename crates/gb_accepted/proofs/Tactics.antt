@@ -20,9 +20,8 @@ use Rattle.gb_smt_laws.proofs.Split.{each_left}
 use Rattle.gb_smt_laws.proofs.Used.{each_together}
 use Rattle.gb_names.proofs.Nodes.{said, said_is}
 use Rattle.gb_elab_laws.proofs.Given.{given_bind, given_is}
-use Rattle.gb_combinators.specs.Combinators.{or_left}
 use Rattle.gb_theory.specs.Patterns.{all_new, is_pattern}
-use Rattle.gb_theory.specs.Combinators.{Stepping, Working, gathered_behind, on_each, in_turn, spread, repeated, times, fitted, inside, introduced, ruled, patterned, done_at, stepped_by, worked, works}
+use Rattle.gb_theory.specs.Combinators.{Stepping, Working, gathered_behind, on_each, or_left, in_turn, spread, repeated, times, fitted, inside, introduced, ruled, patterned, done_at, stepped_by, worked, works}
 use Rattle.gb_accepted.proofs.Given.{given_placed, nothing_given}
 
 -- goals that are typed, and from which goals follow that hold

@@ -6,7 +6,7 @@ ghost use Rattle.gb_app.specs.Status.{exit_of, status_of};
 use gb_state::verdict::Verdict;
 
 /// How a run ended, in the order of the exit statuses.
-#[derive(Clone, Copy, Debug, PartialEq, Eq)]
+#[derive(Clone, Copy)]
 pub enum Status {
     Accepted,
     Refused,

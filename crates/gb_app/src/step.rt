@@ -37,14 +37,14 @@ const START: Place = Place {
 };
 
 /// How far the lines of a text were answered, and the place there.
-#[derive(Clone, Copy, Debug, PartialEq, Eq)]
+#[derive(Clone, Copy)]
 pub struct Point {
     from: usize,
     at: Place,
 }
 
 /// What was read.
-#[derive(Clone, Copy, Debug, PartialEq, Eq)]
+#[derive(Clone, Copy)]
 pub enum Next {
     Piece,
     End,

@@ -16,8 +16,8 @@ use Rattle.gb_typing.specs.Context.{Context}
 use Rattle.gb_typing.specs.Scopes.{nothing, with_declared, AreTypedAfter, IsTypedScope}
 use Rattle.gb_eval.specs.Script.{body_in, body_named}
 use Rattle.gb_eval.specs.Meant.{AreBodies}
-use Rattle.gb_labels_laws.specs.Settings.{with_labels}
-use Rattle.gb_labels_laws.proofs.Settings.{means_same, weighs_same}
+use Rattle.gb_closing_laws.specs.Settings.{with_labels}
+use Rattle.gb_closing_laws.proofs.Settings.{means_same, weighs_same}
 use Rattle.gb_smt_laws.proofs.Equations.{none_some, some_some}
 
 -- the body of an operator speaks of no memory and of no module

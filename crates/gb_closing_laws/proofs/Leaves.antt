@@ -56,10 +56,10 @@ use Rattle.gb_eval.proofs.Environments.{of_is}
 use Rattle.gb_eval.proofs.Operated.{operators_sound}
 use Rattle.gb_labels.specs.Labels.{Labels, choices, choice_at}
 use Rattle.gb_labels.specs.Labelled.{labelled}
-use Rattle.gb_labels_laws.specs.Model.{AreApart, IsOfValues, Reads, OfClaim, HasReadValues, IsAsTrue}
-use Rattle.gb_labels_laws.specs.Chosen.{chosen}
-use Rattle.gb_labels_laws.proofs.ScopeOperators.{scope_apart}
-use Rattle.gb_labels_laws.proofs.Models as models
+use Rattle.gb_closing_laws.specs.Model.{AreApart, IsOfValues, Reads, OfClaim, HasReadValues, IsAsTrue}
+use Rattle.gb_closing_laws.specs.Chosen.{chosen}
+use Rattle.gb_closing_laws.proofs.ScopeOperators.{scope_apart}
+use Rattle.gb_closing_laws.proofs.Models as models
 use Rattle.gb_smt.specs.declared.leaves.Leaf.{Leaf}
 use Rattle.gb_smt.specs.Assign.{labelled_claim}
 use Rattle.gb_smt.specs.Equations.{used_up}

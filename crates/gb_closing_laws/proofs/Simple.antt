@@ -11,8 +11,8 @@ use Rattle.gb_terms.specs.declared.term.Head.TheVariants as head
 use Rattle.gb_goal.specs.Goal.{judges_bodies}
 use Rattle.gb_meaning.specs.Setting.{Setting}
 use Rattle.gb_laws.specs.Typing.{Context, types_of, IsHead, inner, IsTyped, AreTyped}
-use Rattle.gb_labels_laws.specs.Related.{ReadTypes, ReadIs}
-use Rattle.gb_labels_laws.specs.Model.{IsOfValues, AreOfValues, Reads, AllRead}
+use Rattle.gb_closing_laws.specs.Related.{ReadTypes, ReadIs}
+use Rattle.gb_closing_laws.specs.Model.{IsOfValues, AreOfValues, Reads, AllRead}
 use Rattle.gb_smt_laws.specs.Simple.{only, both, is_simple, all_simple}
 use Rattle.gb_smt_laws.specs.Reading.{Variables, no_variables, Reading, IsReadAt, inner as inner_reading}
 use Rattle.gb_smt_laws.specs.Fits.{Fits, AllFit, OnlyFits, BothFit}

@@ -1,3 +1,7 @@
+pub mod Layers
+pub mod Noted
+pub mod Marks
+pub mod Products
 pub mod Tables
 mod Equations
 mod Implied

@@ -1,3 +1,6 @@
+pub mod Variables
+pub mod Components
+pub mod Sizes
 pub mod Parts
 pub mod Connectives
 pub mod Labels

@@ -2,3 +2,4 @@
 #![tactic(auto)]
 
 pub mod goal;
+pub mod laws;

@@ -8,7 +8,8 @@ use gb_read_script::goal_tree::SequentTree;
 use gb_read_script::reading::{command, form};
 use gb_script::head::Head;
 use gb_session::script::verdict_on;
-use gb_state::verdict::{Verdict, too_long};
+use gb_session::session::Session;
+use gb_state::verdict::Verdict;
 use std::alloc::{AllocError, Global};
 
 /// What a text is read as.
@@ -16,11 +17,10 @@ use std::alloc::{AllocError, Global};
 pub enum Part {
     Command,
     Form,
-    Goal,
 }
 
 /// The first byte of a text.
-pub const START: Place = Place {
+const START: Place = Place {
     file: 0,
     line: 1,
     col: 1,
@@ -43,16 +43,10 @@ fn read(alloc: Global, part: Part, text: &[u8]) -> Result<(), Refused> {
     if text.len() >= LIMIT {
         return Err(length_refused());
     }
+    let tokens = tokens(alloc, text, START)?;
     match part {
-        Part::Command => {
-            let tokens = tokens(alloc, text, START)?;
-            drop(command(alloc, text, &tokens, START)?);
-        }
-        Part::Form => {
-            let tokens = tokens(alloc, text, START)?;
-            drop(form(alloc, text, &tokens, START)?);
-        }
-        Part::Goal => drop(goal(alloc, text)?),
+        Part::Command => drop(command(alloc, text, &tokens, START)?),
+        Part::Form => drop(form(alloc, text, &tokens, START)?),
     }
     Ok(())
 }
@@ -102,18 +96,34 @@ pub fn goal_answer(alloc: Global, text: &[u8]) -> Result<String, AllocError> {
     }
 }
 
-fn verdict_of(alloc: Global, text: &[u8]) -> Result<Verdict, AllocError> {
-    if text.len() < LIMIT {
-        verdict_on(alloc, NAME, text)
-    } else {
-        Ok(too_long())
+/// What a script comes to: the number of its lemmas, or its first refusal.
+pub fn script_answer(alloc: Global, text: &[u8]) -> Result<String, AllocError> {
+    if text.len() >= LIMIT {
+        return refusal(alloc, length_refused());
+    }
+    match verdict_on(alloc, NAME, text)? {
+        Verdict::Accepted(lemmas) => format!(in alloc; "{}", lemmas.len()),
+        Verdict::Refused { why, place } => refusal(alloc, Refused::Script { why, place }),
     }
 }
 
-/// What a script comes to: the number of its lemmas, or its first refusal.
-pub fn script_answer(alloc: Global, text: &[u8]) -> Result<String, AllocError> {
-    match verdict_of(alloc, text)? {
-        Verdict::Accepted(lemmas) => format!(in alloc; "{}", lemmas.len()),
-        Verdict::Refused { why, place } => refusal(alloc, Refused::Script { why, place }),
+/// Runs commands one after another, which end at `\n`, up to the first refusal.
+fn run(alloc: Global, session: &mut Session, script: &str) -> Result<(), Refused> {
+    for command in script.lines() {
+        let text = command.as_bytes();
+        if text.len() >= LIMIT {
+            return Err(length_refused());
+        }
+        session.enter(alloc, text, START)?;
+    }
+    Ok(())
+}
+
+/// What a session shows after the commands of a script, each of which is a line of its own, or the first refusal.
+pub fn screen(alloc: Global, script: &str) -> Result<String, AllocError> {
+    let mut session = Session::new(alloc, NAME, true)?;
+    match run(alloc, &mut session, script) {
+        Ok(()) => String::from_utf8_lossy(alloc, session.screen(alloc)?.as_slice()),
+        Err(refused) => refusal(alloc, refused),
     }
 }

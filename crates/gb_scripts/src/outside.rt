@@ -1,12 +1,14 @@
 // Files, a sink and a source in memory, where a call of them fails.
 
-use crate::number;
 use gb_outside::{
     HeldFile, MemFiles, MemSink, MemSource, Numbers, ReadRefused, Source, read_whole, write_all,
 };
 use sqlite_items::Items;
 use std::alloc::{AllocError, Global};
-use std::io;
+
+fn number(word: &str) -> u32 {
+    word.parse::<u32>().unwrap_or(0)
+}
 
 /// The call of this number alone; no call has the number 0.
 fn failing(alloc: Global, number: u32) -> Result<Numbers, AllocError> {
@@ -42,35 +44,26 @@ fn take(alloc: Global, call: u32) -> Result<(usize, usize), AllocError> {
 }
 
 /// Does what a line says: `read` or `write` with a number of bytes and that of the call that fails, behind them the name that is read;
-/// or `take` with the number of the call.
-fn answer_line(rt: &HostRuntime, line: &str) -> io::Result<()> {
-    let alloc = rt.alloc();
+/// or `take` with the number of the call. Answers what it comes to.
+pub fn outside_answer(alloc: Global, line: &str) -> Result<String, AllocError> {
     let (what, rest) = line.split_once(' ').unwrap_or((line, ""));
     let (len, rest) = rest.split_once(' ').unwrap_or((rest, ""));
     let (call, name) = rest.split_once(' ').unwrap_or((rest, ""));
     match what {
         "read" => match read(alloc, number(len), number(call), name) {
-            Ok(bytes) => println!(rt; "{bytes} {line}"),
-            Err(ReadRefused::NoMemory) => Err(io::Error::from(AllocError)),
-            Err(ReadRefused::Missing) => println!(rt; "missing {line}"),
-            Err(ReadRefused::ReadFault) => println!(rt; "fault {line}"),
-            Err(ReadRefused::Length) => println!(rt; "long {line}"),
+            Ok(bytes) => format!(in alloc; "{bytes}"),
+            Err(ReadRefused::NoMemory) => Err(AllocError),
+            Err(ReadRefused::Missing) => String::from_str(alloc, "missing"),
+            Err(ReadRefused::ReadFault) => String::from_str(alloc, "fault"),
+            Err(ReadRefused::Length) => String::from_str(alloc, "long"),
         },
         "write" => {
             let (all, written) = write(alloc, number(len), number(call))?;
-            println!(rt; "{all} {written} {line}")
+            format!(in alloc; "{all} {written}")
         }
         _ => {
             let (first, second) = take(alloc, number(len))?;
-            println!(rt; "{first} {second} {line}")
+            format!(in alloc; "{first} {second}")
         }
     }
-}
-
-/// Answers each line.
-pub fn answer_outside(rt: &HostRuntime, text: &str) -> io::Result<()> {
-    for line in text.lines() {
-        answer_line(rt, line)?;
-    }
-    Ok(())
 }

@@ -13,7 +13,7 @@ use gb_state::state::{OpenProof, State};
 use std::alloc::{AllocError, Global};
 
 /// Whether a proof is open, and how many goals it has left.
-#[derive(Clone, Copy, Debug, PartialEq, Eq)]
+#[derive(Clone, Copy)]
 pub enum Shown {
     Ready,
     Goals(u64),

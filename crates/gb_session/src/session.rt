@@ -32,13 +32,28 @@ use std::marker::Model;
 const KEPT: usize = 4_096;
 
 /// A session. Contracts see what stands now, and what stood before each command that it keeps.
-#[derive(Drop)]
 pub struct Session {
     file: Name,
     keeps: bool,
     state: State,
     enumerations: Enumerations,
     kept: Stack<Kept>,
+}
+
+impl Drop for Session {
+    fn drop(self) {
+        let Session {
+            file,
+            keeps: _,
+            state,
+            enumerations,
+            kept,
+        } = self;
+        drop(file);
+        drop(state);
+        drop(enumerations);
+        drop(kept);
+    }
 }
 
 impl Model for Session {

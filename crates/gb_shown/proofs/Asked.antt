@@ -19,8 +19,8 @@ use Rattle.gb_mods.specs.Meant.{meant_by}
 use Rattle.gb_mods.specs.declared.meant.Meant.TheVariants.{Any}
 use Rattle.gb_adversaries.proofs.There.{abstract_there}
 use Rattle.gb_shapes.specs.declared.place.Enumeration.{Enumeration}
-use Rattle.gb_readback.specs.Written.{is_name_text, is_path, IsWrittenProcedure}
-use Rattle.gb_spelt_laws.proofs.Sequents.{all_append}
+use Rattle.gb_print.specs.Written.{is_name_text, is_path, IsWrittenProcedure}
+use Rattle.gb_shown.proofs.Sequents.{all_append}
 use Rattle.gb_shown.specs.Scopes.{AreNamedOracles, IsNamedOracle, IsNamedParam, IsNamedScope, IsNamedSignature}
 use Rattle.gb_shown.proofs.FoundInForms.{module_type_found}
 use Rattle.gb_shown.proofs.Given.{same_some}

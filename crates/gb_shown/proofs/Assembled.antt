@@ -17,10 +17,10 @@ use Rattle.gb_typing.specs.Scopes.{context_of}
 use Rattle.gb_typing.specs.Sequents.{IsTypedSequent}
 use Rattle.gb_shapes.specs.declared.place.Enumeration.{Enumeration}
 use Rattle.gb_print_text.specs.Goals.{place_of_goal, printed_goal}
-use Rattle.gb_readback.specs.Goals.{IsGoalReadAs}
-use Rattle.gb_spelt_laws.specs.Named.{IsNamedInstr, IsNamedSequent}
-use Rattle.gb_spelt_laws.proofs.Forms.{as_result}
-use Rattle.gb_spelt_laws.specs.Rules.{AreNamedArguments, AreNamedGlobals, AreNamedOperators, AreNamedProcedures}
+use Rattle.gb_print.specs.Goals.{IsGoalReadAs}
+use Rattle.gb_shown.specs.Named.{IsNamedInstr, IsNamedSequent}
+use Rattle.gb_shown.proofs.SpeltForms.{as_result}
+use Rattle.gb_shown.specs.Rules.{AreNamedArguments, AreNamedGlobals, AreNamedOperators, AreNamedProcedures}
 use Rattle.gb_shown.specs.Trees.{IsFull, IsFullTree}
 use Rattle.gb_shown.specs.Words.{IsReadNode, IsReadTree}
 use Rattle.gb_shown.proofs.FoundInScopes.{globals_named, operators_named}

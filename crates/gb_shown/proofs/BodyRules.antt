@@ -48,11 +48,11 @@ use Rattle.gb_elab_mod.specs.OnPrograms.{of_subjects, of_head, outcomes, sampled
 use Rattle.gb_elab_mod.specs.Steps.{formed, case_of_conclusion, sided_case_rule}
 use Rattle.gb_elab_laws.proofs.Given.{given_bind, given_is, none_some, same_some}
 use Rattle.gb_shapes.specs.declared.place.Enumeration.{Enumeration}
-use Rattle.gb_readback.specs.Written.{is_path}
-use Rattle.gb_spelt_laws.specs.Named.{IsNamedType, IsNamedSubject, IsNamedHead, IsNamed, IsNamedInstr, IsNamedCode, IsNamedGoal, IsNamedSequent}
-use Rattle.gb_spelt_laws.specs.Rules.{AreNamedArguments, IsNamedIfAny, IsNamedRule}
-use Rattle.gb_spelt_laws.proofs.Statements.{EachNamed}
-use Rattle.gb_spelt_laws.proofs.Trees.{AllNamed, parts_named}
+use Rattle.gb_print.specs.Written.{is_path}
+use Rattle.gb_shown.specs.Named.{IsNamedType, IsNamedSubject, IsNamedHead, IsNamed, IsNamedInstr, IsNamedCode, IsNamedGoal, IsNamedSequent}
+use Rattle.gb_shown.specs.Rules.{AreNamedArguments, IsNamedIfAny, IsNamedRule}
+use Rattle.gb_shown.proofs.SpeltStatements.{EachNamed}
+use Rattle.gb_shown.proofs.SpeltTrees.{AllNamed, parts_named}
 use Rattle.gb_shown.specs.Scopes.{IsNamedProcedureType, IsNamedScope, IsNamedSetting, IsNamedWanted}
 use Rattle.gb_shown.specs.Words.{IsReadTree}
 use Rattle.gb_shown.proofs.Interfaces.{type_known}

@@ -16,11 +16,11 @@ use Rattle.gb_elab_stmt.specs.Calls.{enough, takes, arguments, call_of, in_last,
 use Rattle.gb_elab_stmt.specs.Targets.{variables_of}
 use Rattle.gb_elab_laws.proofs.Given.{given_bind, given_is}
 use Rattle.gb_shapes.specs.declared.place.Enumeration.{Enumeration}
-use Rattle.gb_readback.specs.Written.{is_target_here}
-use Rattle.gb_spelt_laws.specs.Named.{IsNamedInstr, IsNamedVariable, IsNamedType}
-use Rattle.gb_spelt_laws.proofs.Forms.{as_result}
-use Rattle.gb_spelt_laws.proofs.Statements.{named_call}
-use Rattle.gb_spelt_laws.proofs.Trees.{AllNamed}
+use Rattle.gb_print.specs.Written.{is_target_here}
+use Rattle.gb_shown.specs.Named.{IsNamedInstr, IsNamedVariable, IsNamedType}
+use Rattle.gb_shown.proofs.SpeltForms.{as_result}
+use Rattle.gb_shown.proofs.SpeltStatements.{named_call}
+use Rattle.gb_shown.proofs.SpeltTrees.{AllNamed}
 use Rattle.gb_shown.specs.Laws.{IsNamedReference}
 use Rattle.gb_shown.specs.Scopes.{IsNamedSetting}
 use Rattle.gb_shown.proofs.Judged.{procedure_called_is}

@@ -20,9 +20,9 @@ use Rattle.gb_elab_prog.specs.Modules.{module_given}
 use Rattle.gb_elab_mod.specs.Lemmas.{statement_given}
 use Rattle.gb_elab_laws.proofs.Given.{given_bind, given_is, if_given}
 use Rattle.gb_shapes.specs.declared.place.Enumeration.{Enumeration}
-use Rattle.gb_readback.specs.Written.{is_path}
-use Rattle.gb_spelt_laws.specs.Named.{IsNamedSequent}
-use Rattle.gb_spelt_laws.proofs.Sequents.{all_append}
+use Rattle.gb_print.specs.Written.{is_path}
+use Rattle.gb_shown.specs.Named.{IsNamedSequent}
+use Rattle.gb_shown.proofs.Sequents.{all_append}
 use Rattle.gb_variants.specs.Operand.{Found, operand}
 use Rattle.gb_typing.specs.Programs.{locals_of}
 use Rattle.gb_typing.proofs.Located.{typed_there}

@@ -35,9 +35,9 @@ use Rattle.gb_operators.specs.Operators.{part_wanted}
 use Rattle.gb_shapes.specs.declared.place.Enumeration.{Enumeration}
 use Rattle.gb_print_names.specs.Names.{constants}
 use Rattle.gb_print_text.specs.Layout as layout
-use Rattle.gb_readback.specs.Written.{in_range, is_name_there, is_path_there, is_numeral_here, is_word_here, IsWrittenType, IsWrittenLiteral}
-use Rattle.gb_spelt_laws.specs.Named.{IsNamedType, IsNamed}
-use Rattle.gb_spelt_laws.proofs.Trees.{node_named}
+use Rattle.gb_print.specs.Written.{in_range, is_name_there, is_path_there, is_numeral_here, is_word_here, IsWrittenType, IsWrittenLiteral}
+use Rattle.gb_shown.specs.Named.{IsNamedType, IsNamed}
+use Rattle.gb_shown.proofs.SpeltTrees.{node_named}
 use Rattle.gb_shown.specs.Scopes.{IsNamedScope, IsNamedWanted}
 use Rattle.gb_shown.specs.Trees.{IsFull}
 use Rattle.gb_shown.proofs.Given.{given_bind, given_is, if_allowed}

@@ -34,11 +34,11 @@ use Rattle.gb_elab_prog.specs.Types.{only, new, constants as declared_constants,
 use Rattle.gb_elab_laws.proofs.Given.{given_bind, given_is, if_refused, some_given}
 use Rattle.gb_shapes.specs.declared.place.Enumeration.{Enumeration}
 use Rattle.gb_print_names.specs.Names.{constants}
-use Rattle.gb_readback.specs.Written.{is_name_text, is_name_there, is_path, is_path_there, is_word_here}
-use Rattle.gb_readback.specs.Written as w
-use Rattle.gb_spelt_laws.specs.Named.{IsNamedVariable}
-use Rattle.gb_spelt_laws.specs.Rules.{IsNamedLocal}
-use Rattle.gb_spelt_laws.proofs.Sequents.{all_append}
+use Rattle.gb_print.specs.Written.{is_name_text, is_name_there, is_path, is_path_there, is_word_here}
+use Rattle.gb_print.specs.Written as w
+use Rattle.gb_shown.specs.Named.{IsNamedVariable}
+use Rattle.gb_shown.specs.Rules.{IsNamedLocal}
+use Rattle.gb_shown.proofs.Sequents.{all_append}
 use Rattle.gb_shown.specs.Scopes.{AreNamedOracles, IsNamedEntry, IsNamedOracle, IsNamedParam, IsNamedScope, IsNamedSignature}
 use Rattle.gb_shown.specs.Words.{HasItsNames, IsName, IsReadTree}
 use Rattle.gb_mods.specs.Asked.{signature_of}

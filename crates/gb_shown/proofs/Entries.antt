@@ -23,9 +23,9 @@ use Rattle.gb_elab_prog.specs.Operators.{of_body, parameters, all_parameters, wr
 use Rattle.gb_elab_prog.specs.Sizes.{small}
 use Rattle.gb_elab_laws.proofs.Given.{given_bind, given_is, if_refused}
 use Rattle.gb_shapes.specs.declared.place.Enumeration.{Enumeration}
-use Rattle.gb_spelt_laws.specs.Named.{IsNamed, IsNamedType}
-use Rattle.gb_spelt_laws.proofs.Forms.{as_result}
-use Rattle.gb_spelt_laws.proofs.Sequents.{all_append}
+use Rattle.gb_shown.specs.Named.{IsNamed, IsNamedType}
+use Rattle.gb_shown.proofs.SpeltForms.{as_result}
+use Rattle.gb_shown.proofs.Sequents.{all_append}
 use Rattle.gb_shown.specs.Scopes.{IsNamedEntry, IsNamedScope, AreNamedBindings, IsNamedWanted}
 use Rattle.gb_shown.specs.Words.{IsReadTree}
 use Rattle.gb_shown.proofs.OfForms.{OfForms}

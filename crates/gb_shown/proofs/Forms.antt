@@ -60,9 +60,9 @@ use Rattle.gb_elab.specs.Probability.{before_call, chance, chance_here}
 use Rattle.gb_elab.specs.Globs.{Seen, bare_glob, both_whole, whole_alone}
 use Rattle.gb_elab.specs.Forms.{Arguing, Contracting, Typing, Meaning, annotated, applied, applied_form, application, arguing, arguments, arguments_of, bare, bounded, bracketed, by_rule, call, comparing, contract, contracting, contract_of, declared, elaborated, equivalence, function, hoare, function_typing, last_arguments, meaning, meant, only, operand, operands, operation, operator_alone, probability, projection, quantified, read, simple, summed, typing, under, user_call, value_of, with_meanings, with_side}
 use Rattle.gb_shapes.specs.declared.place.Enumeration.{Enumeration}
-use Rattle.gb_readback.specs.Written.{in_range, IsWrittenProcedure}
-use Rattle.gb_spelt_laws.specs.Named.{IsNamedType, IsNamedResult, IsNamed}
-use Rattle.gb_spelt_laws.proofs.Trees.{AllNamed, node_named}
+use Rattle.gb_print.specs.Written.{in_range, IsWrittenProcedure}
+use Rattle.gb_shown.specs.Named.{IsNamedType, IsNamedResult, IsNamed}
+use Rattle.gb_shown.proofs.SpeltTrees.{AllNamed, node_named}
 use Rattle.gb_shown.specs.Scopes.{IsNamedLocal, IsNamedScope, IsNamedSetting, AreNamedBindings, IsNamedWanted}
 use Rattle.gb_shown.specs.Trees.{HasItsParts, IsFull}
 use Rattle.gb_shown.proofs.Given.{given_bind, given_is, not_given, if_allowed, if_none, if_refused, if_some, some_given, chosen, either}

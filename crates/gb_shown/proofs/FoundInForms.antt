@@ -21,12 +21,12 @@ use Rattle.gb_names.specs.Bindings.{innermost}
 use Rattle.gb_names.specs.Environment.{Name}
 use Rattle.gb_names.specs.Names.{first_named}
 use Rattle.gb_shapes.specs.declared.place.Enumeration.{Enumeration}
-use Rattle.gb_readback.specs.Written.{is_name_text, is_path, is_word, is_word_here, IsWrittenType}
-use Rattle.gb_readback.specs.Written as w
-use Rattle.gb_readback.proofs.LeavesShown.{one_word, all_bytes}
-use Rattle.gb_spelt_laws.specs.Named.{IsNamedType, IsNamedResult, IsNamedVariable}
-use Rattle.gb_spelt_laws.specs.Rules.{HasFirst}
-use Rattle.gb_spelt_laws.proofs.Trees.{parts_named}
+use Rattle.gb_print.specs.Written.{is_name_text, is_path, is_word, is_word_here, IsWrittenType}
+use Rattle.gb_print.specs.Written as w
+use Rattle.gb_print.proofs.LeavesShown.{one_word, all_bytes}
+use Rattle.gb_shown.specs.Named.{IsNamedType, IsNamedResult, IsNamedVariable}
+use Rattle.gb_shown.specs.Rules.{HasFirst}
+use Rattle.gb_shown.proofs.SpeltTrees.{parts_named}
 use Rattle.gb_shown.specs.Scopes.{IsNamedModule, IsNamedModuleType, IsNamedSignature, IsNamedEntry, IsNamedScope, IsNamedLocal, IsNamedKind, AreNamedBindings}
 use Rattle.gb_shown.proofs.Given.{same_some}
 use Rattle.gb_shown.proofs.Types.{as_result}

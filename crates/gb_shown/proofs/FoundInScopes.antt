@@ -17,9 +17,9 @@ use Rattle.gb_goal.specs.Scope.{Declarations, entry_of, as_abstract, as_module, 
 use Rattle.gb_goal.specs.declared.scope.Entry.{Entry}
 use Rattle.gb_goal.specs.declared.scope.Entry.TheVariants as entry
 use Rattle.gb_shapes.specs.declared.place.Enumeration.{Enumeration}
-use Rattle.gb_readback.specs.Written.{is_name_text, is_path, IsWrittenModule, IsWrittenProcedure}
-use Rattle.gb_spelt_laws.specs.Named.{IsNamedVariable}
-use Rattle.gb_spelt_laws.specs.Rules.{IsNamedLocal, AreNamedGlobals, AreNamedOperators}
+use Rattle.gb_print.specs.Written.{is_name_text, is_path, IsWrittenModule, IsWrittenProcedure}
+use Rattle.gb_shown.specs.Named.{IsNamedVariable}
+use Rattle.gb_shown.specs.Rules.{IsNamedLocal, AreNamedGlobals, AreNamedOperators}
 use Rattle.gb_shown.specs.Scopes.{IsNamedMember, IsNamedModule, IsNamedEntry, IsNamedScope}
 use Rattle.gb_shown.proofs.Instances.{EachWritten, arguments_written, instance_named, name_written}
 use Rattle.gb_shown.proofs.Later.{all_so}

@@ -16,9 +16,9 @@ use Rattle.gb_typing.specs.Context.{Context}
 use Rattle.gb_typing.specs.Programs.{EachStatement}
 use Rattle.gb_shapes.specs.declared.place.Enumeration.{Enumeration}
 use Rattle.gb_print_text.specs.Goals.{place_of_goal, printed_goal}
-use Rattle.gb_readback.specs.Goals.{IsGoalReadAs}
-use Rattle.gb_spelt_laws.specs.Named.{IsNamedInstr, IsNamedSequent}
-use Rattle.gb_spelt_laws.specs.Rules.{AreNamedArguments}
+use Rattle.gb_print.specs.Goals.{IsGoalReadAs}
+use Rattle.gb_shown.specs.Named.{IsNamedInstr, IsNamedSequent}
+use Rattle.gb_shown.specs.Rules.{AreNamedArguments}
 use Rattle.gb_shown.specs.Scopes.{IsNamedModule, IsNamedScope, IsNamedStatement}
 use Rattle.gb_shown.specs.Words.{IsReadTree}
 use Rattle.gb_elab_prog.specs.Entries.{entries_given}

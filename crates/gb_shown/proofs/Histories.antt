@@ -10,7 +10,7 @@ use Rattle.gb_script.specs.declared.tree.Node.{Node}
 use Rattle.gb_script.specs.Tree.{head_of, parts_of, place_of}
 use Rattle.gb_elab_laws.proofs.Given.{given_bind, given_is}
 use Rattle.gb_typing.proofs.DeclaredModules.{goal_bound, goal_declared}
-use Rattle.gb_spelt_laws.specs.Named.{IsNamedSequent}
+use Rattle.gb_shown.specs.Named.{IsNamedSequent}
 use Rattle.gb_shown.specs.Words.{IsReadTree}
 use Rattle.gb_state.specs.declared.state.Claim.{Claim}
 use Rattle.gb_state.specs.Opened.{in_context}

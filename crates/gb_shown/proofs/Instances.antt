@@ -16,11 +16,11 @@ use Rattle.gb_terms.specs.Rows.{mexps_in, terms_in}
 use Rattle.gb_goal.specs.Instances.{arguments_of, call_with, calls_with, given_more, instance, name_of, put_in, put_in_all, put_in_reference, row_with, stands_for}
 use Rattle.gb_meaning.specs.Names.{Name}
 use Rattle.gb_shapes.specs.declared.place.Enumeration.{Enumeration}
-use Rattle.gb_readback.specs.Written.{is_path, AreWrittenModules, IsWrittenModule, IsWrittenProcedure}
-use Rattle.gb_readback.specs.Written as w
-use Rattle.gb_spelt_laws.specs.Named.{AreNamedInstrs, IsNamedInstr}
-use Rattle.gb_spelt_laws.proofs.Statements.{EachNamed, named_call, named_if, named_while}
-use Rattle.gb_spelt_laws.proofs.Trees.{terms_named}
+use Rattle.gb_print.specs.Written.{is_path, AreWrittenModules, IsWrittenModule, IsWrittenProcedure}
+use Rattle.gb_print.specs.Written as w
+use Rattle.gb_shown.specs.Named.{AreNamedInstrs, IsNamedInstr}
+use Rattle.gb_shown.proofs.SpeltStatements.{EachNamed, named_call, named_if, named_while}
+use Rattle.gb_shown.proofs.SpeltTrees.{terms_named}
 use Rattle.gb_shown.specs.Scopes.{IsNamedMember}
 use mathlib.Core.Former.{Count}
 

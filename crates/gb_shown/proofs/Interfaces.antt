@@ -17,7 +17,7 @@ use Rattle.gb_goal.specs.declared.scope.Entry.{Entry}
 use Rattle.gb_goal.specs.declared.scope.Entry.TheVariants as entry
 use Rattle.gb_meaning.specs.Names.{Name}
 use Rattle.gb_shapes.specs.declared.place.Enumeration.{Enumeration}
-use Rattle.gb_readback.specs.Written.{is_name_text, is_path}
+use Rattle.gb_print.specs.Written.{is_name_text, is_path}
 use Rattle.gb_shown.specs.Scopes.{AreNamedTypes, IsNamedAround, IsNamedInterface, IsNamedMember, IsNamedModule, IsNamedParam, IsNamedProcedureType, IsNamedScope, IsNamedSignature}
 use Rattle.gb_shown.proofs.FoundInForms.{entry_found, path_of, type_signatures}
 use Rattle.gb_shown.proofs.FoundInScopes.{params_named}

@@ -27,9 +27,9 @@ use Rattle.gb_elab.specs.declared.contract.Contract.{Contract}
 use Rattle.gb_elab.specs.OneProcedure.{after_one, always, around, before_one, ends, lossless, one, with_chance}
 use Rattle.gb_elab.specs.Probability.{before_call}
 use Rattle.gb_shapes.specs.declared.place.Enumeration.{Enumeration}
-use Rattle.gb_readback.specs.Written.{is_name_text, IsWrittenProcedure}
-use Rattle.gb_spelt_laws.specs.Named.{IsNamed}
-use Rattle.gb_spelt_laws.proofs.Trees.{node_named}
+use Rattle.gb_print.specs.Written.{is_name_text, IsWrittenProcedure}
+use Rattle.gb_shown.specs.Named.{IsNamed}
+use Rattle.gb_shown.proofs.SpeltTrees.{node_named}
 use Rattle.gb_terms.specs.declared.op.Op.TheVariants as op
 use Rattle.gb_terms.specs.declared.op.Rel.TheVariants as rel
 use Rattle.gb_terms.specs.declared.term.Head.TheVariants.{Whole}

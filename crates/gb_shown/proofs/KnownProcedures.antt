@@ -3,9 +3,9 @@ use Rattle.std.proofs.Common.{◌≡◌, List}
 use Rattle.gb_terms.specs.declared.decl.TypedName.{TypedName}
 use Rattle.gb_goal.specs.Scope.{Declarations}
 use Rattle.gb_shapes.specs.declared.place.Enumeration.{Enumeration}
-use Rattle.gb_readback.specs.Written.{is_path}
-use Rattle.gb_spelt_laws.specs.Named.{IsNamedType, IsNamedVariable}
-use Rattle.gb_spelt_laws.specs.Rules.{AreNamedProcedures}
+use Rattle.gb_print.specs.Written.{is_path}
+use Rattle.gb_shown.specs.Named.{IsNamedType, IsNamedVariable}
+use Rattle.gb_shown.specs.Rules.{AreNamedProcedures}
 use Rattle.gb_shown.specs.Scopes.{IsNamedScope}
 use Rattle.gb_shown.proofs.Asked.{asked_named}
 use Rattle.gb_shown.proofs.FoundInScopes.{at_named}

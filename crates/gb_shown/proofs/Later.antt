@@ -25,9 +25,9 @@ use Rattle.gb_goal.specs.declared.scope.Entry.TheVariants as entry
 use Rattle.gb_goal.specs.declared.sequent.Sequent.{Sequent}
 use Rattle.gb_shapes.specs.declared.place.Enumeration.{Enumeration}
 use Rattle.gb_print_names.specs.Names.{constants}
-use Rattle.gb_readback.specs.Written.{in_range, is_name_there, is_path, is_path_there, is_numeral_here, is_word_here, has_word, is_weight_here, are_weights_here, IsWrittenLiteral}
-use Rattle.gb_spelt_laws.specs.Named.{IsNamedHead, IsNamed, AreNamed, IsNamedInstr, AreNamedInstrs, IsNamedCode, IsNamedGoal, IsNamedHyp, IsNamedSequent}
-use Rattle.gb_spelt_laws.specs.Rules.{HasFirst, IsNamedLocal, IsNamedProcedure}
+use Rattle.gb_print.specs.Written.{in_range, is_name_there, is_path, is_path_there, is_numeral_here, is_word_here, has_word, is_weight_here, are_weights_here, IsWrittenLiteral}
+use Rattle.gb_shown.specs.Named.{IsNamedHead, IsNamed, AreNamed, IsNamedInstr, AreNamedInstrs, IsNamedCode, IsNamedGoal, IsNamedHyp, IsNamedSequent}
+use Rattle.gb_shown.specs.Rules.{HasFirst, IsNamedLocal, IsNamedProcedure}
 use Rattle.gb_shown.specs.Scopes.{IsNamedMember, IsNamedModule, IsNamedEntry, IsNamedScope}
 use mathlib.Core.Former.{Count}
 

@@ -40,9 +40,9 @@ use Rattle.gb_names.specs.Wanted.{counted}
 use Rattle.gb_elab.specs.Forms.{read}
 use Rattle.gb_elab.specs.Globs.{Seen, as_value, bare_glob, is_abstract, whole_alone, whole_read, whole_value}
 use Rattle.gb_shapes.specs.declared.place.Enumeration.{Enumeration}
-use Rattle.gb_readback.specs.Written.{is_path, is_target_here}
-use Rattle.gb_spelt_laws.specs.Named.{IsNamedType, IsNamed, IsNamedVariable}
-use Rattle.gb_spelt_laws.proofs.Trees.{node_named}
+use Rattle.gb_print.specs.Written.{is_path, is_target_here}
+use Rattle.gb_shown.specs.Named.{IsNamedType, IsNamed, IsNamedVariable}
+use Rattle.gb_shown.proofs.SpeltTrees.{node_named}
 use Rattle.gb_shown.specs.Scopes.{IsNamedModule, IsNamedAround, IsNamedLocal, AreNamedVariables, IsNamedSetting, IsNamedKind, AreNamedBindings}
 use Rattle.gb_shown.proofs.Given.{given_bind, given_is, not_given, if_allowed, if_refused, same_some, chosen, both_true}
 use Rattle.gb_shown.proofs.Types.{as_result}

@@ -27,9 +27,9 @@ use Rattle.gb_elab_prog.specs.Sizes.{small}
 use Rattle.gb_elab_mod.specs.Lemmas.{claimed, stated, statement_by, statement_given}
 use Rattle.gb_elab_laws.proofs.Given.{given_bind, given_is, if_given, some_given}
 use Rattle.gb_shapes.specs.declared.place.Enumeration.{Enumeration}
-use Rattle.gb_readback.specs.Written.{is_name_text, is_path}
-use Rattle.gb_spelt_laws.specs.Named.{IsNamed, IsNamedVariable, IsNamedBind}
-use Rattle.gb_spelt_laws.proofs.Sequents.{all_append}
+use Rattle.gb_print.specs.Written.{is_name_text, is_path}
+use Rattle.gb_shown.specs.Named.{IsNamed, IsNamedVariable, IsNamedBind}
+use Rattle.gb_shown.proofs.Sequents.{all_append}
 use Rattle.gb_shown.specs.Scopes.{IsNamedScope, IsNamedStatement}
 use Rattle.gb_shown.specs.Words.{HasItsNames, IsName, IsReadTree}
 use Rattle.gb_shown.proofs.Entries.{small_is}

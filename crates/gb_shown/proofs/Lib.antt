@@ -1,3 +1,40 @@
+pub mod Headed
+pub mod Operators
+pub mod TypedForms
+pub mod TypedGoals
+pub mod Marked
+pub mod SpeltTypes
+pub mod SpeltTrees
+pub mod Changed
+pub mod Opened
+pub mod Spelling
+pub mod SpeltStatements
+pub mod NamedGoals
+pub mod SpeltForms
+pub mod Programs
+pub mod Rows
+pub mod Samplings
+pub mod Sequents
+pub mod Conclusions
+pub mod Uses
+pub mod Relational
+pub mod Chances
+pub mod Probabilities
+pub mod AllValues
+pub mod Loops
+pub mod SpeltCalls
+pub mod BothCalls
+pub mod AbstractCalls
+pub mod Events
+pub mod Rewriting
+pub mod Variants
+pub mod Transformed
+pub mod Inlined
+pub mod Reached
+pub mod Sim
+pub mod Beside
+pub mod Transformations
+pub mod Applied
 mod Later
 mod Instances
 mod FoundInScopes

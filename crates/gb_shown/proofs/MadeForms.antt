@@ -37,9 +37,9 @@ use Rattle.gb_operators.specs.Kinds.{component, components, element, entries, in
 use Rattle.gb_operators.specs.Operators.{first_wanted, operand_wanted, option_wanted, part_wanted, prefix_operator, prefix_result, result_type, shaped, takes}
 use Rattle.gb_operators.specs.Rules.{asked, factor_wanted, factors, in_order, made, member, of_type, outcome_of, pair, part_type, parts_wanted, product_type, values}
 use Rattle.gb_shapes.specs.declared.place.Enumeration.{Enumeration}
-use Rattle.gb_readback.specs.Written.{in_range, is_path}
-use Rattle.gb_spelt_laws.specs.Named.{IsNamedType, IsNamedResult, IsNamedOperator, IsNamed}
-use Rattle.gb_spelt_laws.proofs.Trees.{AllNamed, node_named, parts_named}
+use Rattle.gb_print.specs.Written.{in_range, is_path}
+use Rattle.gb_shown.specs.Named.{IsNamedType, IsNamedResult, IsNamedOperator, IsNamed}
+use Rattle.gb_shown.proofs.SpeltTrees.{AllNamed, node_named, parts_named}
 use Rattle.gb_shown.specs.Scopes.{IsNamedWanted}
 use Rattle.gb_shown.proofs.Given.{given_bind, given_is, if_allowed, if_refused, if_some, same_some, some_given, either}
 use Rattle.gb_shown.proofs.Types.{as_result, as_type, option_named, distribution_named, tuple_named, outcome_named, inside_named, entries_named, element_named, components_named, got_named}

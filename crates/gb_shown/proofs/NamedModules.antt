@@ -18,7 +18,7 @@ use Rattle.gb_names.specs.Modules.{Given, Read, Reading, all_given, application,
 use Rattle.gb_names.specs.Names.{hidden, may_name, no_declared, path, spelled_by}
 use Rattle.gb_names.proofs.Nodes.{Known as KnownNode, by_parts, parts, said}
 use Rattle.gb_shapes.specs.declared.place.Enumeration.{Enumeration}
-use Rattle.gb_readback.specs.Written.{is_path, IsWrittenModule}
+use Rattle.gb_print.specs.Written.{is_path, IsWrittenModule}
 use Rattle.gb_shown.specs.Scopes.{IsNamedInterface, IsNamedSetting}
 use Rattle.gb_shown.proofs.Given.{given_bind, given_is, if_allowed, if_refused, some_given}
 use Rattle.gb_shown.proofs.Instances.{EachWritten, both_written, more_written, name_written}

@@ -24,10 +24,10 @@ use Rattle.gb_limits.specs.Lexeme.{spelled_in, spells, terminal_of, text_at}
 use Rattle.gb_limits.specs.declared.spelling.Spelling.{Spelling}
 use Rattle.gb_limits.specs.declared.spelling.TheConstants.{SPELLINGS}
 use Rattle.gb_read_script.specs.Words.{is_name, IsTokenOf, IsWord}
-use Rattle.gb_readback.proofs.Lexed.{lexed, lexed_after, lexed_at}
-use Rattle.gb_readback.proofs.LexemesAre.{lexemes_are}
-use Rattle.gb_readback.proofs.Sound.{bare_lexemes}
-use Rattle.gb_readback.specs.Written.{is_name_text, is_word}
+use Rattle.gb_print.proofs.Lexed.{lexed, lexed_after, lexed_at}
+use Rattle.gb_print.proofs.LexemesAre.{lexemes_are}
+use Rattle.gb_print.proofs.Sound.{bare_lexemes}
+use Rattle.gb_print.specs.Written.{is_name_text, is_word}
 use Rattle.gb_script.specs.declared.terminal.Terminal.{Terminal}
 use Rattle.gb_script.specs.declared.terminal.Terminal.TheVariants as terminal
 use Rattle.gb_script.specs.declared.text.Lexeme.{Lexeme}

@@ -32,11 +32,11 @@ use Rattle.gb_elab_mod.specs.Occurring.{Locals, local, or_args, read_locals, out
 use Rattle.gb_elab_laws.proofs.Given.{none_some, out_type, same_some}
 use Rattle.gb_elab_laws.proofs.Occurring.{head_locals, read_is}
 use Rattle.gb_shapes.specs.declared.place.Enumeration.{Enumeration}
-use Rattle.gb_readback.specs.Written.{is_target_here, are_targets_here}
-use Rattle.gb_spelt_laws.specs.Named.{IsNamedType, AreNamedTypes, IsNamedResult, IsNamedHead, IsNamed, AreNamed, IsNamedInstr, AreNamedInstrs}
-use Rattle.gb_spelt_laws.proofs.Sequents.{all_append}
-use Rattle.gb_spelt_laws.proofs.Statements.{EachNamed}
-use Rattle.gb_spelt_laws.proofs.Trees.{parts_named}
+use Rattle.gb_print.specs.Written.{is_target_here, are_targets_here}
+use Rattle.gb_shown.specs.Named.{IsNamedType, AreNamedTypes, IsNamedResult, IsNamedHead, IsNamed, AreNamed, IsNamedInstr, AreNamedInstrs}
+use Rattle.gb_shown.proofs.Sequents.{all_append}
+use Rattle.gb_shown.proofs.SpeltStatements.{EachNamed}
+use Rattle.gb_shown.proofs.SpeltTrees.{parts_named}
 use Rattle.gb_shown.specs.Scopes.{IsNamedLocal, IsNamedProcedureType}
 use Rattle.gb_shown.proofs.Later.{both_hold}
 use mathlib.Core.Former.{Count}

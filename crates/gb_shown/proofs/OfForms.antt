@@ -12,9 +12,9 @@ use Rattle.gb_names.specs.Names.{Target, target}
 use Rattle.gb_names.specs.Types.{type_of, type_or_number}
 use Rattle.gb_elab.specs.Forms.{elaborated, function}
 use Rattle.gb_shapes.specs.declared.place.Enumeration.{Enumeration}
-use Rattle.gb_readback.specs.Written.{is_target_here, IsWrittenType}
-use Rattle.gb_spelt_laws.specs.Named.{IsNamed, IsNamedType}
-use Rattle.gb_spelt_laws.specs.Rules.{HasFirst}
+use Rattle.gb_print.specs.Written.{is_target_here, IsWrittenType}
+use Rattle.gb_shown.specs.Named.{IsNamed, IsNamedType}
+use Rattle.gb_shown.specs.Rules.{HasFirst}
 use Rattle.gb_shown.specs.Scopes.{IsNamedScope, IsNamedSetting, AreNamedBindings, IsNamedWanted}
 use Rattle.gb_shown.specs.Words.{IsReadTree}
 

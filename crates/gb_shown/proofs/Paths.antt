@@ -2,10 +2,10 @@
 use Rattle.std.proofs.Common.{◌≡◌, ℕ, ◌==◌, Bool, true, false, ◌&&◌, if◌then◌else◌, List, [], ◌∷◌, ◌++◌, refl, ap, sym, ◌∙◌, subst}
 use Rattle.std.proofs.lemmas.Bool.{false≢true}
 use Rattle.std.specs.List.{list_all}
-use Rattle.gb_readback.specs.Nodes.{with_byte, words}
-use Rattle.gb_readback.specs.Written.{is_name_text, is_path}
-use Rattle.gb_readback.proofs.LeavesShown.{all_bytes, one_word}
-use Rattle.gb_readback.proofs.NameWords.{name_facts}
+use Rattle.gb_print.specs.Nodes.{with_byte, words}
+use Rattle.gb_print.specs.Written.{is_name_text, is_path}
+use Rattle.gb_print.proofs.LeavesShown.{all_bytes, one_word}
+use Rattle.gb_print.proofs.NameWords.{name_facts}
 
 pub name_is_path : (x : List ℕ) → is_name_text x ≡ true → is_path x ≡ true
 name_is_path x h =

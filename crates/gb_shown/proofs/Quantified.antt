@@ -23,8 +23,8 @@ use Rattle.gb_names.specs.Bindings.{memory}
 use Rattle.gb_names.specs.Environment.{Environment}
 use Rattle.gb_names.specs.Types.{type_of}
 use Rattle.gb_shapes.specs.declared.place.Enumeration.{Enumeration}
-use Rattle.gb_spelt_laws.specs.Named.{IsNamedType, IsNamed}
-use Rattle.gb_spelt_laws.proofs.Trees.{node_named}
+use Rattle.gb_shown.specs.Named.{IsNamedType, IsNamed}
+use Rattle.gb_shown.proofs.SpeltTrees.{node_named}
 use Rattle.gb_shown.specs.Scopes.{IsNamedScope, IsNamedKind, AreNamedBindings}
 use Rattle.gb_shown.specs.Trees.{IsFull}
 use Rattle.gb_shown.proofs.Given.{given_bind, given_is}

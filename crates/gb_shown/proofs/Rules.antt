@@ -56,12 +56,12 @@ use Rattle.gb_elab_mod.specs.Uses.{all_hinted, defined_operator, hypothesis, is_
 use Rattle.gb_elab_prog.specs.Unbuilt.{absent}
 use Rattle.gb_elab_laws.proofs.Given.{given_bind, given_is}
 use Rattle.gb_shapes.specs.declared.place.Enumeration.{Enumeration}
-use Rattle.gb_readback.specs.Written.{is_name_text}
-use Rattle.gb_spelt_laws.specs.Named.{IsNamedHead, IsNamed, IsNamedGoal, IsNamedSequent}
-use Rattle.gb_spelt_laws.specs.Rules.{AreNamedArguments, IsNamedIfAny, IsNamedRelational, IsNamedRule, IsNamedStep}
-use Rattle.gb_spelt_laws.proofs.Forms.{as_result}
-use Rattle.gb_spelt_laws.proofs.NamedGoals.{no_front}
-use Rattle.gb_spelt_laws.proofs.Trees.{parts_named}
+use Rattle.gb_print.specs.Written.{is_name_text}
+use Rattle.gb_shown.specs.Named.{IsNamedHead, IsNamed, IsNamedGoal, IsNamedSequent}
+use Rattle.gb_shown.specs.Rules.{AreNamedArguments, IsNamedIfAny, IsNamedRelational, IsNamedRule, IsNamedStep}
+use Rattle.gb_shown.proofs.SpeltForms.{as_result}
+use Rattle.gb_shown.proofs.NamedGoals.{no_front}
+use Rattle.gb_shown.proofs.SpeltTrees.{parts_named}
 use Rattle.gb_shown.specs.Laws.{IsNamedReference}
 use Rattle.gb_shown.specs.Scopes.{IsNamedScope, IsNamedWanted}
 use Rattle.gb_shown.specs.Words.{HasItsNames, IsName, IsReadTree}

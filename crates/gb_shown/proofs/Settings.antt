@@ -20,11 +20,11 @@ use Rattle.gb_names.specs.Names.{unit}
 use Rattle.gb_elab_prog.specs.declared.context.Bound.{Bound}
 use Rattle.gb_elab_prog.specs.Contexts.{context_of, in_context, nothing_around}
 use Rattle.gb_shapes.specs.declared.place.Enumeration.{Enumeration}
-use Rattle.gb_readback.specs.Written.{is_name_text, is_path, IsWrittenLiteral}
-use Rattle.gb_spelt_laws.specs.Named.{IsNamed, IsNamedVariable, IsNamedBind, IsNamedSequent}
-use Rattle.gb_spelt_laws.proofs.Rows.{goal_named}
-use Rattle.gb_spelt_laws.proofs.Sequents.{all_append}
-use Rattle.gb_spelt_laws.proofs.Trees.{node_named}
+use Rattle.gb_print.specs.Written.{is_name_text, is_path, IsWrittenLiteral}
+use Rattle.gb_shown.specs.Named.{IsNamed, IsNamedVariable, IsNamedBind, IsNamedSequent}
+use Rattle.gb_shown.proofs.Rows.{goal_named}
+use Rattle.gb_shown.proofs.Sequents.{all_append}
+use Rattle.gb_shown.proofs.SpeltTrees.{node_named}
 use Rattle.gb_shown.specs.Scopes.{IsNamedLocal, IsNamedModule, IsNamedEntry, IsNamedScope, IsNamedSetting}
 use Rattle.gb_shown.proofs.Later.{all_so}
 use Rattle.gb_shown.proofs.Paths.{name_is_path}

@@ -23,10 +23,10 @@ use Rattle.gb_names.specs.Names.{no_declared, path}
 use Rattle.gb_names.specs.Types.{Spelling, plain_type, up_to, bits_type, int_type, bracketed_type, option_type, map_type, all_spelled, tuple_of, tuple_type, declared_type, words, spelling, spelled, with_spellings, type_of, number_typing, number_type, with_number_types, type_or_number}
 use Rattle.gb_names.proofs.Nodes.{said_is}
 use Rattle.gb_shapes.specs.declared.place.Enumeration.{Enumeration}
-use Rattle.gb_readback.specs.Written.{in_range, IsWrittenType, AreWrittenTypes}
-use Rattle.gb_readback.specs.Written as w
-use Rattle.gb_spelt_laws.specs.Named.{IsNamedType}
-use Rattle.gb_spelt_laws.specs.Rules.{HasFirst}
+use Rattle.gb_print.specs.Written.{in_range, IsWrittenType, AreWrittenTypes}
+use Rattle.gb_print.specs.Written as w
+use Rattle.gb_shown.specs.Named.{IsNamedType}
+use Rattle.gb_shown.specs.Rules.{HasFirst}
 use Rattle.gb_shown.specs.Scopes.{IsNamedScope}
 use Rattle.gb_shown.specs.Trees.{HasItsParts, IsFull}
 use Rattle.gb_shown.proofs.Given.{given_bind, given_is, if_refused, some_given, chosen, either}

@@ -5,8 +5,8 @@ use Rattle.gb_goal.specs.Binders.{with_declared_modules}
 use Rattle.gb_goal.specs.Scope.{Declarations, entry_of, path_of}
 use Rattle.gb_goal.specs.declared.sequent.Sequent.{Sequent}
 use Rattle.gb_shapes.specs.declared.place.Enumeration.{Enumeration}
-use Rattle.gb_readback.specs.Written.{is_path}
-use Rattle.gb_spelt_laws.specs.Named.{IsNamedBind, IsNamedSequent}
+use Rattle.gb_print.specs.Written.{is_path}
+use Rattle.gb_shown.specs.Named.{IsNamedBind, IsNamedSequent}
 use Rattle.gb_shown.specs.Scopes.{IsNamedScope, IsNamedStatement}
 use Rattle.gb_shown.proofs.Later.{all_so}
 use Rattle.gb_theory.specs.Built.{Session, OpenProof}

@@ -33,11 +33,11 @@ use Rattle.gb_elab_stmt.specs.Targets.{roomy, once, next_target, targets, type_o
 use Rattle.gb_elab_stmt.proofs.Stated.{stated_is}
 use Rattle.gb_elab_laws.proofs.Given.{given_bind, given_is, if_given, some_given}
 use Rattle.gb_shapes.specs.declared.place.Enumeration.{Enumeration}
-use Rattle.gb_readback.specs.Written.{is_target_here, is_variable_here, are_targets_here}
-use Rattle.gb_spelt_laws.specs.Named.{IsNamed, IsNamedInstr, IsNamedType, IsNamedResult}
-use Rattle.gb_spelt_laws.proofs.Forms.{as_result}
-use Rattle.gb_spelt_laws.proofs.Statements.{EachNamed, append_named, named_if, named_while}
-use Rattle.gb_spelt_laws.proofs.Trees.{node_named}
+use Rattle.gb_print.specs.Written.{is_target_here, is_variable_here, are_targets_here}
+use Rattle.gb_shown.specs.Named.{IsNamed, IsNamedInstr, IsNamedType, IsNamedResult}
+use Rattle.gb_shown.proofs.SpeltForms.{as_result}
+use Rattle.gb_shown.proofs.SpeltStatements.{EachNamed, append_named, named_if, named_while}
+use Rattle.gb_shown.proofs.SpeltTrees.{node_named}
 use Rattle.gb_shown.specs.Scopes.{IsNamedSetting}
 use Rattle.gb_shown.specs.Trees.{HasPart, HasItsParts, WritesOne}
 use Rattle.gb_shown.specs.Words.{IsReadNode, IsReadTree}

@@ -16,8 +16,8 @@ use Rattle.gb_steps.specs.declared.step.Step.{Step}
 use Rattle.gb_elab_mod.specs.Steps.{step_given}
 use Rattle.gb_elab_laws.proofs.Given.{given_bind, given_is}
 use Rattle.gb_shapes.specs.declared.place.Enumeration.{Enumeration}
-use Rattle.gb_spelt_laws.proofs.Sequents.{all_append}
-use Rattle.gb_spelt_laws.specs.Named.{IsNamedSequent}
+use Rattle.gb_shown.proofs.Sequents.{all_append}
+use Rattle.gb_shown.specs.Named.{IsNamedSequent}
 use Rattle.gb_shown.specs.Scopes.{IsNamedScope}
 use Rattle.gb_shown.specs.Trees.{HasItsParts}
 use Rattle.gb_shown.specs.Words.{HasItsNames, IsReadNode, IsReadTree}

@@ -7,7 +7,7 @@ use Rattle.gb_laws.specs.Operators.{row, maps}
 use Rattle.gb_laws.proofs.Constructors.{distribution_is, map_is, tuple_is}
 use Rattle.gb_operators.specs.Kinds.{entries}
 use Rattle.gb_elab_laws.proofs.Tested.{map_of}
-use Rattle.gb_spelt_laws.specs.Named.{IsNamedType, AreNamedTypes, IsNamedResult}
+use Rattle.gb_shown.specs.Named.{IsNamedType, AreNamedTypes, IsNamedResult}
 
 row_named : (ts : List Ty) → AllByRecursion IsNamedType ts → AreNamedTypes (row ts)
 row_named [] k = tt

@@ -11,9 +11,9 @@ use Rattle.gb_core.specs.declared.ty.Ty.TheViews.{roll-out-Ty}
 use Rattle.gb_laws.specs.Operators.{row}
 use Rattle.gb_laws.proofs.Constructors.{distribution_is, map_is, option_is, tuple_is}
 use Rattle.gb_operators.specs.Kinds.{components, components_layer, element, element_layer, entries, entries_layer, inside_option, option_layer, outcome, outcome_layer}
-use Rattle.gb_readback.specs.Written.{IsWrittenType, AreWrittenTypes}
-use Rattle.gb_readback.specs.Written as w
-use Rattle.gb_spelt_laws.specs.Named.{IsNamedType, AreNamedTypes, IsNamedResult}
+use Rattle.gb_print.specs.Written.{IsWrittenType, AreWrittenTypes}
+use Rattle.gb_print.specs.Written as w
+use Rattle.gb_shown.specs.Named.{IsNamedType, AreNamedTypes, IsNamedResult}
 use Rattle.gb_shown.proofs.Given.{same_some}
 use mathlib.Core.Former.{Count}
 

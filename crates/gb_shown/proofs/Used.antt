@@ -37,10 +37,10 @@ use Rattle.gb_elab_mod.specs.Taken.{is_taken}
 use Rattle.gb_elab_mod.specs.Uses.{hypothesis_named, is_memory, value_of, memory_of, about_named, said_of, said_of_all, name_of, about_value, about_memory, about_all, said_on, without_modules, said_by, lemma_named, used_named, used_at, used, hypothesis}
 use Rattle.gb_elab_laws.proofs.Given.{given_bind, given_is, if_none, if_refused, if_unbuilt, map_or_given, none_some, same_some, some_given}
 use Rattle.gb_shapes.specs.declared.place.Enumeration.{Enumeration}
-use Rattle.gb_spelt_laws.specs.Named.{IsNamed, IsNamedType, IsNamedHead, IsNamedHyp, IsNamedVariable, IsNamedSequent}
-use Rattle.gb_spelt_laws.proofs.Changed.{changed_named}
-use Rattle.gb_spelt_laws.proofs.Forms.{as_result}
-use Rattle.gb_spelt_laws.proofs.Trees.{AllNamed, node_named, parts_named}
+use Rattle.gb_shown.specs.Named.{IsNamed, IsNamedType, IsNamedHead, IsNamedHyp, IsNamedVariable, IsNamedSequent}
+use Rattle.gb_shown.proofs.Changed.{changed_named}
+use Rattle.gb_shown.proofs.SpeltForms.{as_result}
+use Rattle.gb_shown.proofs.SpeltTrees.{AllNamed, node_named, parts_named}
 use Rattle.gb_shown.specs.Scopes.{IsNamedEntry, IsNamedScope, IsNamedStatement}
 use Rattle.gb_shown.specs.Words.{IsReadTree}
 use Rattle.gb_shown.proofs.FoundInScopes.{entry_named}

@@ -31,15 +31,15 @@ use Rattle.gb_operators.specs.Kinds.{outcome}
 use Rattle.gb_operators.specs.Operators.{part_wanted}
 use Rattle.gb_weights.specs.Weights.{added, built_in_constant, constant_of, is_weighed, new_constant, no_constant, outcomes, stated, sum_of, weighed, weighed_all, weight_in, weights}
 use Rattle.gb_shapes.specs.declared.place.Enumeration.{Enumeration}
-use Rattle.gb_readback.specs.Written.{are_weights_here, in_range, is_weight_here, is_word_here}
-use Rattle.gb_spelt_laws.specs.Named.{IsNamedType, IsNamed}
-use Rattle.gb_spelt_laws.proofs.Trees.{node_named}
+use Rattle.gb_print.specs.Written.{are_weights_here, in_range, is_weight_here, is_word_here}
+use Rattle.gb_shown.specs.Named.{IsNamedType, IsNamed}
+use Rattle.gb_shown.proofs.SpeltTrees.{node_named}
 use Rattle.gb_shown.specs.Scopes.{IsNamedScope}
 use Rattle.gb_shown.proofs.Given.{given_bind, given_is, not_given, if_allowed, if_refused, if_none, chosen, both_true}
 use Rattle.gb_shown.proofs.Types.{distribution_named}
 use Rattle.gb_shown.proofs.FoundInForms.{constant_found}
 use Rattle.gb_shown.proofs.Constants.{layout_outcome, out_bool, out_num, out_unit, wanted_named}
-use Rattle.gb_readback.specs.Written as written
+use Rattle.gb_print.specs.Written as written
 
 weight_range : (ps : List Pair) (x : Name) (p : Place) (m : ℕ) → weight_in ps x p ≡ given m → in_range m ≡ true
 weight_range ps x p m h =

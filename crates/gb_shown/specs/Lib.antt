@@ -1,3 +1,6 @@
+pub mod Spelt
+pub mod Named
+pub mod Rules
 pub mod Trees
 pub mod Words
 pub mod Scopes

@@ -23,9 +23,9 @@ use Rattle.gb_names.specs.declared.bindings.Kind.TheVariants.{Value, Memory}
 use Rattle.gb_names.specs.declared.setting.Variables.{Variables}
 use Rattle.gb_names.specs.declared.setting.Variables.TheVariants.{Absent, Own, Sides}
 use Rattle.gb_shapes.specs.declared.place.Enumeration.{Enumeration}
-use Rattle.gb_readback.specs.Written.{is_name_text, is_path, is_word_here, IsWrittenType}
-use Rattle.gb_spelt_laws.specs.Named.{IsNamedType, IsNamedResult, IsNamed, IsNamedVariable, IsNamedBind, IsNamedSequent}
-use Rattle.gb_spelt_laws.specs.Rules.{HasFirst, IsNamedProcedure}
+use Rattle.gb_print.specs.Written.{is_name_text, is_path, is_word_here, IsWrittenType}
+use Rattle.gb_shown.specs.Named.{IsNamedType, IsNamedResult, IsNamed, IsNamedVariable, IsNamedBind, IsNamedSequent}
+use Rattle.gb_shown.specs.Rules.{HasFirst, IsNamedProcedure}
 
 -- What is declared.
 

@@ -6,7 +6,7 @@ use Rattle.gb_script.specs.declared.head.Head.TheVariants as head
 use Rattle.gb_script.specs.declared.tree.Node.{Node}
 use Rattle.gb_script.specs.Tree.{head_of, parts_of, text_of}
 use Rattle.gb_script.specs.Each.{Each}
-use Rattle.gb_readback.specs.Written.{is_name_text}
+use Rattle.gb_print.specs.Written.{is_name_text}
 use Rattle.gb_shown.specs.Trees.{IsFull}
 
 abbrev pub IsName : Node → Type 0

@@ -73,9 +73,9 @@ pub fn shown_goals_are_read()
     goals_stay_typed();
     declared_modules();
     parts_of_scopes();
-    gb_spelt_laws::name_laws::steps();
-    gb_spelt_laws::name_laws::termination();
-    gb_spelt_laws::name_laws::named_goals_are_read();
+    crate::name_laws::steps();
+    crate::name_laws::termination();
+    crate::name_laws::named_goals_are_read();
     gb_read_script::laws::words_are_tokens();
     gb_language::laws::trees_are_sorted();
 }

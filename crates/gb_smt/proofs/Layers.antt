@@ -7,7 +7,7 @@ use Rattle.gb_terms.specs.declared.term.Head.TheFolds.{fold_out-Term}
 use Rattle.gb_meaning.specs.Written.{type_of}
 use Rattle.gb_meaning.specs.Names.{Name}
 use Rattle.gb_laws.specs.Typing.{types_of}
-use Rattle.gb_variables.specs.Sizes as sizes
+use Rattle.gb_equality.specs.Sizes as sizes
 use Rattle.gb_smt.specs.Leaves as leaves
 use Rattle.gb_smt.specs.Width as width
 

@@ -4,7 +4,7 @@ use Rattle.std.proofs.lemmas.Bool.{false≢true}
 use Rattle.gb_terms.specs.declared.term.Term.{Term}
 use Rattle.gb_smt.specs.declared.claims.Claim.{Claim}
 use Rattle.gb_closing.specs.Linked.{Vars}
-use Rattle.gb_variables.specs.Components.{inside, outside}
+use Rattle.gb_equality.specs.Components.{inside, outside}
 use Rattle.gb_terms.specs.Make.{truth_literal}
 use Rattle.gb_smt.specs.Claims.{claim_of, contradiction, contradictions, first_variables, component_and, components}
 

@@ -22,8 +22,8 @@ use Rattle.gb_goal.specs.Scope.{Declarations}
 use Rattle.gb_meaning.specs.Names.{Name}
 use Rattle.gb_eval.specs.Script.{body_named, made_of}
 use Rattle.gb_eval.specs.Known.{is_known, all_known, is_head_known, known_at, known_of, are_true}
-use Rattle.gb_variables.proofs.Products.{product, are_finite, product_both, card_by, card_of_types}
-use Rattle.gb_variables.specs.Sizes.{Tys, of_memory, read_by_only}
+use Rattle.gb_equality.proofs.Products.{product, are_finite, product_both, card_by, card_of_types}
+use Rattle.gb_equality.specs.Sizes.{Tys, of_memory, read_by_only}
 use Rattle.gb_smt.specs.declared.claims.Claim.{Claim}
 use Rattle.gb_walk.specs.Layers.{seen_by, where_last}
 use Rattle.gb_reads.specs.Reads as reads

@@ -16,7 +16,7 @@ use Rattle.gb_smt.specs.declared.apply.Trial.{Trial}
 use Rattle.gb_smt.specs.declared.apply.Tried.{Tried}
 use Rattle.gb_smt.specs.declared.apply.Tried.TheVariants.{Closed}
 use Rattle.gb_members.specs.Counted.{is_tried}
-use Rattle.gb_variables.specs.Sizes.{greater}
+use Rattle.gb_equality.specs.Sizes.{greater}
 use Rattle.gb_labels.specs.Labels.{Labels}
 use Rattle.gb_smt.specs.Width.{width_of}
 use Rattle.gb_smt.specs.Assign.{found_with, labelled_claim}

@@ -17,7 +17,7 @@ use Rattle.gb_closing.specs.Linked.{Vars}
 use Rattle.gb_smt.specs.declared.assign.Found.TheVariants.{False}
 use Rattle.gb_goal.specs.Scope.{Declarations}
 use Rattle.gb_smt.specs.Assign.{environment_of, assignment, with_values, implied, truth_under, truth_at, found_under}
-use Rattle.gb_variables.proofs.Products.{product, are_finite, place_below}
+use Rattle.gb_equality.proofs.Products.{product, are_finite, place_below}
 
 -- the number of assignments to variables, and the values of the one at a place
 abbrev pub count : Vars → ℕ

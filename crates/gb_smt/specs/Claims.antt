@@ -5,8 +5,8 @@ use Rattle.gb_terms.specs.Make.{truth_literal}
 use Rattle.gb_smt.specs.declared.leaves.Leaf.{Leaf}
 use Rattle.gb_smt.specs.declared.claims.Claim.{Claim}
 use Rattle.gb_closing.specs.Linked.{Vars}
-use Rattle.gb_variables.specs.Variables.{variables, variables_in}
-use Rattle.gb_variables.specs.Components.{inside, outside}
+use Rattle.gb_equality.specs.Variables.{variables, variables_in}
+use Rattle.gb_equality.specs.Components.{inside, outside}
 
 abbrev pub claim_of : List Term → Term → Claim
 claim_of hyps t = record { hyps = hyps; conclusion = t; variables = variables_in hyps t }

@@ -17,7 +17,7 @@ use Rattle.gb_eval.specs.declared.script.Script.{Script}
 use Rattle.gb_eval.specs.Script.{opened}
 use Rattle.gb_reads.specs.Reads.{reads_of}
 use Rattle.gb_eval.specs.Known.{is_known, known_of}
-use Rattle.gb_variables.specs.Sizes.{Tys, of_memory}
+use Rattle.gb_equality.specs.Sizes.{Tys, of_memory}
 use Rattle.gb_smt.specs.declared.claims.Claim.{Claim}
 use Rattle.gb_labels.specs.Labels.{Labels}
 use Rattle.gb_labels.specs.Things.{most_labels}

@@ -18,6 +18,7 @@ use gb_core::Shared;
 use gb_core::place::Place;
 use gb_core::refusal::{Refused, Why};
 use gb_core::value::{Card, Values};
+use gb_equality::sizes::greater;
 use gb_goal::scope::Scope;
 use gb_goal::sequent::{Sequent, Sequents};
 use gb_labels::labels::Label;
@@ -26,7 +27,6 @@ use gb_members::counted::is_tried;
 use gb_mods::exclusions::exclusions;
 use gb_num::Overflow;
 use gb_terms::term::Term;
-use gb_variables::sizes::greater;
 use sqlite_items::Items;
 use std::alloc::{AllocError, Global};
 

@@ -14,6 +14,7 @@ ghost use Rattle.gb_smt.specs.Assign.{assignments, assignment, environment_of, w
 use crate::claims::Claim;
 use gb_closing::linked::{Variable, Variables};
 use gb_core::value::{Card, Value, Values};
+use gb_equality::sizes::{number_of_values, size_of_variables};
 use gb_eval::answer::Stop;
 use gb_eval::env::{Env, ReadValue, ReadValues};
 use gb_eval::eval::truth;
@@ -27,7 +28,6 @@ use gb_num::Overflow;
 use gb_terms::term::Term;
 use gb_types::nth::nth;
 use gb_types::size::size;
-use gb_variables::sizes::{number_of_values, size_of_variables};
 use gb_walk::clash::Excluded;
 use sqlite_items::Items;
 use std::alloc::{AllocError, Global};

@@ -2,15 +2,15 @@
 
 ghost use Rattle.std.specs.Prelude.{◌≡◌, ◌++◌, [], ◌∷◌, false, IfOk, OnOk};
 ghost use Rattle.gb_terms.specs.Make.{truth_literal};
-ghost use Rattle.gb_variables.specs.Components.{inside, outside};
+ghost use Rattle.gb_equality.specs.Components.{inside, outside};
 ghost use Rattle.gb_smt.specs.Claims.{claim_of, contradictions, first_variables, components_of, claims_of};
 
 use crate::leaves::Leaf;
 use gb_closing::linked::{Variable, Variables};
+use gb_equality::components::{marked, marks_of};
+use gb_equality::variables::{variables, variables_in};
 use gb_terms::make::boolean;
 use gb_terms::term::{Term, Terms};
-use gb_variables::components::{marked, marks_of};
-use gb_variables::variables::{variables, variables_in};
 use sqlite_items::Items;
 use std::alloc::{AllocError, Global};
 

@@ -10,15 +10,15 @@ ghost use Rattle.gb_smt.specs.Width.{bound_by, bound_in, bound_types, is_known_c
 use crate::claims::Claim;
 use gb_core::name::Name;
 use gb_core::value::Card;
+use gb_equality::sizes::{
+    are_finite, bound_size_of_memory, size_of_outcomes, size_of_variables, times,
+};
 use gb_eval::known::{are_known, is_known};
 use gb_eval::script::{Script, body_of, inside, script_of};
 use gb_goal::scope::Scope;
 use gb_members::counted::card_at;
 use gb_terms::term::{Head, Term};
 use gb_types::size::{MANY, size};
-use gb_variables::sizes::{
-    are_finite, bound_size_of_memory, size_of_outcomes, size_of_variables, times,
-};
 use std::alloc::{AllocError, Global};
 
 /// The product of the sizes of the types of the variables that are bound in the body of an operator of the script, up to `MANY`.

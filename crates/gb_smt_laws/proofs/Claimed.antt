@@ -30,7 +30,7 @@ use Rattle.gb_eval.specs.Eval.{operators_of}
 use Rattle.gb_eval.specs.Meant.{AreOperators}
 use Rattle.gb_smt.specs.declared.claims.Claim.{Claim}
 use Rattle.gb_closing.specs.Linked.{Vars}
-use Rattle.gb_variables.specs.Variables.{variables_in}
+use Rattle.gb_equality.specs.Variables.{variables_in}
 use Rattle.gb_smt.specs.Claims.{claim_of}
 use Rattle.gb_members.specs.Counted.{is_tried}
 use Rattle.gb_smt.specs.Width.{assignments_of, width_of, is_known_claim}

@@ -16,8 +16,8 @@ use Rattle.gb_meaning.proofs.Truths.{truth_of}
 use Rattle.gb_smt.specs.declared.claims.Claim.{Claim}
 use Rattle.gb_smt.specs.declared.leaves.Leaf.{Leaf}
 use Rattle.gb_closing.specs.Linked.{Vars}
-use Rattle.gb_variables.specs.Variables.{variables}
-use Rattle.gb_variables.specs.Components.{is_joined, inside, outside}
+use Rattle.gb_equality.specs.Variables.{variables}
+use Rattle.gb_equality.specs.Components.{is_joined, inside, outside}
 use Rattle.gb_smt.specs.Claims.{claim_of, contradiction, contradictions, first_variables, component_and, components, components_of, claims_of}
 use Rattle.gb_smt_laws.specs.Reading.{Reading}
 use Rattle.gb_smt_laws.specs.Closing.{FitsIfSimple, IsAssumed, IsConcluded, IsImplied}

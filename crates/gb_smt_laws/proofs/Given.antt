@@ -27,7 +27,7 @@ use Rattle.gb_eval.specs.Known.{is_known, all_known, are_of_outcomes, are_true, 
 use Rattle.gb_eval.specs.Meant.{Means, is_given, AreGiven, AllGiven}
 use Rattle.gb_closing.specs.declared.linked.Variable.{Variable}
 use Rattle.gb_closing.specs.Linked.{Vars, is_among}
-use Rattle.gb_variables.specs.Variables.{of_read, variable_of, term_variables, with_new, noted, variables_in}
+use Rattle.gb_equality.specs.Variables.{of_read, variable_of, term_variables, with_new, noted, variables_in}
 use Rattle.gb_smt.specs.Assign.{with_values}
 use Rattle.gb_smt.specs.Meant.{EachGiven}
 use Rattle.gb_smt_laws.specs.Reading.{Variables, no_variables, Reading, IsReadAt, inner, AreHeld, AreBoundReadable, IsReadingOf}

@@ -21,8 +21,8 @@ use Rattle.gb_laws.specs.Typing.{types_of}
 use Rattle.gb_meaning.specs.Names.{Name}
 use Rattle.gb_eval.specs.Known.{is_known, all_known, is_head_known, are_of_outcomes, are_true}
 use Rattle.gb_closing.specs.Linked.{Vars}
-use Rattle.gb_variables.specs.Variables.{at_head, at_instr, at_subject, at_cmd, at_term, of_read, term_variables, head_read, variable_of}
-use Rattle.gb_variables.proofs.Layers.{variables_out}
+use Rattle.gb_equality.specs.Variables.{at_head, at_instr, at_subject, at_cmd, at_term, of_read, term_variables, head_read, variable_of}
+use Rattle.gb_equality.proofs.Layers.{variables_out}
 use Rattle.gb_smt_laws.specs.Simple.{is_simple, all_simple, only, both}
 use Rattle.gb_smt_laws.specs.Reading.{Variables, Reading, IsReadAt, inner}
 use mathlib.Core.Former.{Count, arity, this}

@@ -10,7 +10,7 @@ use Rattle.gb_terms.specs.Equal.{read_eq}
 use Rattle.gb_meaning.specs.Commands.{terms_in}
 use Rattle.gb_closing.specs.declared.linked.Variable.{Variable}
 use Rattle.gb_closing.specs.Linked.{Vars, is_among}
-use Rattle.gb_variables.specs.Variables.{of_read, term_variables, with_new, noted, variables_in}
+use Rattle.gb_equality.specs.Variables.{of_read, term_variables, with_new, noted, variables_in}
 use Rattle.gb_labels.specs.Labels.{Labels, labelled_ty}
 use Rattle.gb_labels.specs.Labelled.{labelled_head, labelled, all_labelled}
 use Rattle.gb_smt.specs.Claims.{claim_of}

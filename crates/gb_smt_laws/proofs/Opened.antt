@@ -24,7 +24,7 @@ use Rattle.gb_eval.specs.Totals.{total_of, totals_of, head_total, total_over}
 use Rattle.gb_eval.specs.Eval.{Part, Environment, at_head, called, eval, eval_all, function_of, operators_of}
 use Rattle.gb_eval.proofs.Environments.{of_is}
 use Rattle.gb_reads.specs.Reads.{reads_of}
-use Rattle.gb_variables.specs.Sizes.{Tys, of_memory}
+use Rattle.gb_equality.specs.Sizes.{Tys, of_memory}
 use Rattle.gb_smt.specs.Width.{bound_by, bound_types, all_bound, bound_of, only_reads}
 use Rattle.gb_smt_laws.proofs.Equations.{none_some, some_some}
 use Rattle.gb_smt_laws.proofs.Bodies.{AreDeclared, all_declared}

@@ -1,5 +1,5 @@
 -- What tactics make of goals, by their heads and parts.
-use Rattle.std.proofs.Common.{◌≡◌, ℕ, suc, ◌+◌, ◌-◌, ◌<◌, ◌≤◌, ◌==◌, Bool, true, false, ◌&&◌, nat_le, if◌then◌else◌, List, [], ◌∷◌, ◌++◌, drop, length, map, Some, None, refl, ap, ◌∙◌, arith}
+use Rattle.std.proofs.Common.{◌≡◌, ◌⊎◌, inl, inr, ℕ, suc, ◌+◌, ◌-◌, ◌<◌, ◌≤◌, ◌==◌, Bool, true, false, ◌&&◌, nat_le, if◌then◌else◌, List, [], ◌∷◌, ◌++◌, drop, length, map, Some, None, refl, ap, ◌∙◌, arith}
 use Rattle.std.proofs.lemmas.Bool.{eq-eqb}
 use Rattle.std.proofs.lemmas.List.{drop_all, length-map}
 use Rattle.std.specs.List.{zip}
@@ -18,8 +18,7 @@ use Rattle.gb_limits.specs.Numbers.{number_of}
 use Rattle.gb_names.proofs.Answers.{fails_as, leads_on, passes}
 use Rattle.gb_names.proofs.Nodes.{said_is}
 use Rattle.gb_theory.specs.Patterns.{all_new, is_pattern}
-use Rattle.gb_theory.specs.Combinators.{Stepping, done_at, gathered_behind, in_turn, introduced, on_each, patterned, repeated, ruled, spread, stepped_by, times, Working, worked, works}
-use Rattle.gb_combinators.specs.Combinators.{times_allowed}
+use Rattle.gb_theory.specs.Combinators.{Stepping, done_at, fitted, gathered_behind, in_turn, inside, introduced, on_each, patterned, repeated, ruled, spread, stepped_by, times, times_allowed, Working, worked, works}
 use Rattle.gb_theory.specs.Tactics.{with_works, each_works, fits, inner}
 
 placed_behind : (place : Place) (a : Answer (List Sequent)) (k : List Sequent → Answer (List Sequent)) →
@@ -53,8 +52,13 @@ module _ (ds : Declarations) (f : Node → Stepping) where
   each (t ∷ ts) = ap (λ ws. works ds f t ∷ ws) (each ts)
 
   module _ (h : Head) (ts : List Node) (place : Place) where
-    pub tactic_is : (q : Sequent) → h ≡ head.Tactic → stepped_by ds f h (with_works ds f ts) place q ≡ in_turn (each_works ds f ts) (q ∷ [])
-    tactic_is q e = ap (λ k. stepped_by ds f k (with_works ds f ts) place q) e ∙ ap (λ ws. in_turn ws (q ∷ [])) (each ts)
+    pub tactic_is : (q : Sequent) → (h ≡ head.Tactic) ⊎ (h ≡ head.BothPatterns) → stepped_by ds f h (with_works ds f ts) place q ≡ in_turn (each_works ds f ts) (q ∷ [])
+    tactic_is q (inl e) = ap (λ k. stepped_by ds f k (with_works ds f ts) place q) e ∙ ap (λ ws. in_turn ws (q ∷ [])) (each ts)
+    tactic_is q (inr e) = ap (λ k. stepped_by ds f k (with_works ds f ts) place q) e ∙ ap (λ ws. in_turn ws (q ∷ [])) (each ts)
+
+    pub introduced_by : (q : Sequent) → (h ≡ head.Introduction) ⊎ (h ≡ head.Move) → stepped_by ds f h (with_works ds f ts) place q ≡ introduced ds (with_works ds f ts) q
+    introduced_by q (inl e) = ap (λ k. stepped_by ds f k (with_works ds f ts) place q) e
+    introduced_by q (inr e) = ap (λ k. stepped_by ds f k (with_works ds f ts) place q) e
 
     pub repeat_is : (q : Sequent) (n t : Node) → h ≡ head.Repeat → ts ≡ n ∷ t ∷ [] →
         stepped_by ds f h (with_works ds f ts) place q ≡ times (number_of (text_of n)) (place_of n) (works ds f t) (q ∷ [])
@@ -65,20 +69,15 @@ module _ (ds : Declarations) (f : Node → Stepping) where
         stepped_by ds f h (with_works ds f ts) place q ≡ (works ds f t (q ∷ []) >>= on_each (f (done_at place)))
     by_is q t e is = ap (λ k. stepped_by ds f k (with_works ds f ts) place q) e ∙ ap (λ us. stepped_by ds f head.By (with_works ds f us) place q) is
 
-    pub both_is : (q : Sequent) → h ≡ head.BothPatterns → stepped_by ds f h (with_works ds f ts) place q ≡ in_turn (each_works ds f ts) (q ∷ [])
-    both_is q e = ap (λ k. stepped_by ds f k (with_works ds f ts) place q) e ∙ ap (λ ws. in_turn ws (q ∷ [])) (each ts)
-
     -- a rule, and then the patterns behind it, each with its refusals at the rule
     pub rule_is : (q : Sequent) (r i : Node) → ts ≡ r ∷ i ∷ [] →
         stepped_by ds f head.Rule (with_works ds f ts) place q ≡ (placed_at place (ruled f (head_of r) (r, works ds f r) q) >>= λ qs. placed_at place (works ds f i qs))
     rule_is q r i is =
         ap (λ us. stepped_by ds f head.Rule (with_works ds f us) place q) is ∙ placed_behind place (ruled f (head_of r) (r, works ds f r) q) (works ds f i)
 
-    pub either_is : (qs : List Sequent) → h ≡ head.EitherPattern → worked ds f h (with_works ds f ts) place qs ≡ spread (each_works ds f ts) place qs
-    either_is qs e = ap (λ k. worked ds f k (with_works ds f ts) place qs) e ∙ ap (λ ws. spread ws place qs) (each ts)
-
-    pub branches_is : (qs : List Sequent) → h ≡ head.Branches → worked ds f h (with_works ds f ts) place qs ≡ spread (each_works ds f ts) place qs
-    branches_is qs e = ap (λ k. worked ds f k (with_works ds f ts) place qs) e ∙ ap (λ ws. spread ws place qs) (each ts)
+    pub spread_by : (qs : List Sequent) → (h ≡ head.EitherPattern) ⊎ (h ≡ head.Branches) → worked ds f h (with_works ds f ts) place qs ≡ spread (each_works ds f ts) place qs
+    spread_by qs (inl e) = ap (λ k. worked ds f k (with_works ds f ts) place qs) e ∙ ap (λ ws. spread ws place qs) (each ts)
+    spread_by qs (inr e) = ap (λ k. worked ds f k (with_works ds f ts) place qs) e ∙ ap (λ ws. spread ws place qs) (each ts)
 
   pub step_is : (h : Head) (ws : List (Node × Working)) (place : Place) (qs : List Sequent) → (h ≡ head.Next → ⊥) → (h ≡ head.EitherPattern → ⊥) → (h ≡ head.Branches → ⊥) →
       worked ds f h ws place qs ≡ on_each (stepped_by ds f h ws place) qs
@@ -86,6 +85,25 @@ module _ (ds : Declarations) (f : Node → Stepping) where
   step_is head.EitherPattern ws place qs n e b = absurd (e refl)
   step_is head.Branches ws place qs n e b = absurd (b refl)
   step_is _ ws place qs n e b = refl
+
+  -- a pattern leaves goals, on which what stands inside it works, or nothing does
+  pub fits_on : (t : Node) (q : Sequent) (qs : List Sequent) → (head_of t ≡ head.BothPatterns) ⊎ (head_of t ≡ head.EitherPattern) → fitted (head_of t) (f t q) ≡ given qs
+      → fits ds f t q ≡ inner ds f t qs
+  fits_on t q qs e is = leads_on (fitted (head_of t) (f t q)) (inside (head_of t) (inner ds f t)) qs is ∙ by_head e
+    where
+      by_head : (head_of t ≡ head.BothPatterns) ⊎ (head_of t ≡ head.EitherPattern) → inside (head_of t) (inner ds f t) qs ≡ inner ds f t qs
+      by_head (inl e) = ap (λ h. inside h (inner ds f t) qs) e
+      by_head (inr e) = ap (λ h. inside h (inner ds f t) qs) e
+
+  inside_none : (h : Head) (w : Working) (qs : List Sequent) → (h ≡ head.BothPatterns → ⊥) → (h ≡ head.EitherPattern → ⊥) → inside h w qs ≡ given qs
+  inside_none head.BothPatterns w qs b e = absurd (b refl)
+  inside_none head.EitherPattern w qs b e = absurd (e refl)
+  inside_none _ w qs b e = refl
+
+  pub fits_alone : (t : Node) (q : Sequent) (qs : List Sequent) → (head_of t ≡ head.BothPatterns → ⊥) → (head_of t ≡ head.EitherPattern → ⊥) → fitted (head_of t) (f t q) ≡ given qs
+      → fits ds f t q ≡ given qs
+  fits_alone t q qs b e is =
+      leads_on (fitted (head_of t) (f t q)) (inside (head_of t) (inner ds f t)) qs is ∙ inside_none (head_of t) (inner ds f t) qs b e
 
   pub rules_alone : (h : Head) (r : Node × Working) (q : Sequent) → (h ≡ head.Move → ⊥) → ruled f h r q ≡ f r.0 q
   rules_alone head.Move r q m = absurd (m refl)

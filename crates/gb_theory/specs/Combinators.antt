@@ -1,6 +1,6 @@
 -- What a proof step with its combinators makes of goals. A step works on one goal, of which some goals are left, or none. On several
 -- goals it works on one after another, and the first refusal stands.
-use Rattle.std.specs.Prelude.{ℕ, zero, suc, ◌==◌, ◌&&◌, nat_le, if◌then◌else◌, List, [], ◌∷◌, ◌++◌, length, map, codes}
+use Rattle.std.specs.Prelude.{ℕ, zero, suc, ◌==◌, ◌&&◌, nat_le, if◌then◌else◌, List, [], ◌∷◌, ◌++◌, length, map, Option, Some, None, codes}
 use Rattle.std.specs.List.{zip}
 use Rattle.gb_core.specs.declared.place.Place.{Place}
 use Rattle.gb_core.specs.declared.refusal.Why.TheVariants.{Argument}
@@ -12,7 +12,6 @@ use Rattle.gb_script.specs.declared.head.Head.{Head}
 use Rattle.gb_script.specs.declared.head.Head.TheVariants as head
 use Rattle.gb_script.specs.declared.tree.Node.{Node, para-Node}
 use Rattle.gb_script.specs.Tree.{node, head_of, text_of, place_of}
-use Rattle.gb_combinators.specs.Combinators.{or_left}
 use Rattle.gb_theory.specs.Patterns.{is_pattern, all_new}
 use Rattle.gb_limits.specs.Numbers.{number_of}
 
@@ -53,9 +52,18 @@ repeated (suc n) w qs = do
   rs ← w qs
   repeated n w rs
 
+-- a number of rounds that may be asked for
+abbrev pub times_allowed : ℕ → Option ℕ
+times_allowed n = if nat_le 1 n && nat_le n 64 then Some n else None
+
 -- 1 to 64 times
 abbrev pub times : ℕ → Place → Working → Working
 times n place w qs = if nat_le 1 n && nat_le n 64 then repeated n w qs else refused Argument place
+
+-- a refusal leaves the goal
+abbrev pub or_left : Answer (List Sequent) → Sequent → Answer (List Sequent)
+or_left (given qs) q = given qs
+or_left (refused why place) q = given (q ∷ [])
 
 -- A pattern works on a goal as a rule. Where it doesn't fit the refusal has no place of its own, so it stands at the rule before the
 -- pattern; `/#` is refused at its own place.

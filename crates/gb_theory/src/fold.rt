@@ -8,7 +8,7 @@ ghost use Rattle.std.specs.Option.{option_copied};
 ghost use Rattle.gb_script.specs.Tree.{head_of, parts_of, place_of};
 ghost use Rattle.gb_goal.specs.Answers.{Answers, Gives};
 ghost use Rattle.gb_goal.specs.Binders.{with_declared_modules};
-ghost use Rattle.gb_elab_mod.specs.Lemmas.{lemma_name};
+ghost use Rattle.gb_elab_mod.specs.Lemmas.{binders_in, lemma_name};
 ghost use Rattle.gb_theory.specs.Built.{Session, OpenProof as Opened, lemmas_with, scope_with, seen_in, with_ended, with_goals};
 ghost use Rattle.gb_theory.specs.Commands.{all_allowed, assumes, brings, declares, is_built_in, loops_opened, opens, opens_loops, requires_files, begun, ended, continued, InProof, Proves, WorksOn, ComesToOf, ComesTo};
 ghost use Rattle.gb_state.specs.Opened.{is_new, is_undeclared};
@@ -18,13 +18,14 @@ ghost use Rattle.gb_theory.specs.Sessions.{open_of, session_of, Meets, Leads, Is
 
 use crate::limits::{check_all, check_declarations, check_each, check_goal};
 use crate::outcome_laws::rules_have_answers;
-use crate::tactics::work_on_one;
+use crate::tactics::work;
 use gb_core::SharedItems;
 use gb_core::name::{Name, Names};
 use gb_core::place::Place;
 use gb_core::refusal::{Refused, Why};
+use gb_elab_mod::binders::binders;
 use gb_goal::binders::binder_entries;
-use gb_goal::scope::{Binders, ProcName, Scope};
+use gb_goal::scope::{ProcName, Scope};
 use gb_goal::sequent::{Sequent, Sequents};
 use gb_script::head::Head;
 use gb_script::tree::Node;
@@ -34,6 +35,7 @@ use gb_terms::term::Instr;
 use gb_variants::operand::operand;
 use gb_variants::variants::goals_of;
 use std::alloc::{AllocError, Global};
+use std::slice::from_ref;
 
 fn refused(why: Why, place: Place) -> Refused
     ensures { result ≡ Refused.Script why place }
@@ -204,8 +206,7 @@ fn open_lemma(
     let statement = gb_elab_mod::lemma::statement(alloc, &mut state.scope, tree)?;
     check_declarations(&state.scope, place)?;
     check_goal(&statement, place)?;
-    let binders = gb_elab_mod::binders::binders(alloc, tree)?;
-    let proof = opened(alloc, name, statement, binders)?;
+    let proof = opened(alloc, tree, name, statement)?;
     state.proof = Some(proof);
     Ok(())
 }
@@ -213,12 +214,13 @@ fn open_lemma(
 /// The proof of a lemma before its first step.
 fn opened(
     alloc: Global,
+    tree: &Node,
     name: &Name,
     statement: Sequent,
-    binders: Binders,
 ) -> Result<OpenProof, AllocError>
-    ensures { IfOk result (λ p. p ≡ record { claim = Claim.Lemma name.now statement binders; goals = with_declared_modules statement ∷ []; fresh = true }) }
+    ensures { IfOk result (λ p. p ≡ record { claim = Claim.Lemma name.now statement (binders_in tree.now); goals = with_declared_modules statement ∷ []; fresh = true }) }
 {
+    let binders = binders(alloc, tree)?;
     let goals = one_goal(alloc, &statement)?;
     let name = name.copy(alloc)?;
     let claim = Claim::Lemma {
@@ -438,7 +440,7 @@ fn subgoals(
         return Err(refused(Why::NoGoal, place));
     };
     rules_have_answers();
-    let next = work_on_one(alloc, scope, tree, first)?;
+    let next = work(alloc, scope, tree, from_ref(first))?;
     within_limits(next, goals, place)
 }
 

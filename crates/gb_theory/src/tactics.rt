@@ -8,17 +8,16 @@ ghost use Rattle.gb_goal.specs.declared.sequent.Sequent.{Sequent as Goal};
 ghost use Rattle.gb_limits.specs.Numbers.{number_of};
 ghost use Rattle.gb_script.specs.declared.tree.Node.{Node as Tree};
 ghost use Rattle.gb_script.specs.Tree.{head_of, parts_of, text_of, place_of};
-ghost use Rattle.gb_combinators.specs.Combinators.{or_left};
 ghost use Rattle.gb_theory.specs.Commands.{AreRules, RuleAnswers, Applied, allowed, entered, entering, on_guard, transformed, unless_unproved};
 ghost use Rattle.gb_theory.specs.Patterns.{is_pattern};
-ghost use Rattle.gb_theory.specs.Combinators.{Stepping, done_at, fitted, inside, introduced, on_each, in_turn, ruled, spread, times, stepped_by, worked, works};
+ghost use Rattle.gb_theory.specs.Combinators.{Stepping, done_at, fitted, introduced, on_each, or_left, in_turn, ruled, spread, times, stepped_by, worked, works};
 ghost use Rattle.gb_theory.specs.Sessions.{Meets};
 ghost use Rattle.gb_theory.specs.Tactics.{with_works, each_works, fits};
 
+use crate::combinators::{only, or_left, times_allowed};
 use crate::limits::check_each;
 use crate::names::check_new;
 use crate::outcome_laws::rules_have_answers;
-use gb_combinators::combinators::{or_left, times_allowed};
 use gb_core::name::Name;
 use gb_core::place::Place;
 use gb_core::refusal::{Refused, Why};
@@ -33,6 +32,7 @@ use gb_script::tree::Node;
 use gb_steps::step::{Acts, BodyRule, RelationalRule, Rule, Step, Transformation};
 use sqlite_items::Items;
 use std::alloc::{AllocError, Global};
+use std::slice::from_ref;
 
 /// Refuses a procedure with a loop of its own that isn't proved.
 fn unless_unproved(alloc: Global, found: Option<ProcName>, place: Place) -> Result<(), Refused>
@@ -219,18 +219,6 @@ fn fitted(head: Head, made: Result<Sequents, Refused>) -> Result<Sequents, Refus
     }
 }
 
-/// What a pattern makes of a goal as a rule.
-fn pattern_rule(
-    alloc: Global,
-    scope: &Scope,
-    tree: &Node,
-    goal: &Sequent,
-) -> Result<Sequents, Refused>
-    ensures { (f : Tree → Stepping) → AreRules scope.now f → Answers (fitted (head_of tree.now) (f tree.now goal.now)) result }
-{
-    fitted(tree.head, rule(alloc, scope, tree, goal))
-}
-
 /// `done`, as it is written.
 fn done_at(alloc: Global, place: Place) -> Result<Node, AllocError>
     ensures { IfOk result (λ step. step ≡ done_at place) }
@@ -269,31 +257,14 @@ fn done(alloc: Global, scope: &Scope, place: Place, goals: &[Sequent]) -> Result
     rule_on_each(alloc, scope, &step, goals)
 }
 
-/// A goal alone.
-fn only(alloc: Global, goal: &Sequent) -> Result<Sequents, AllocError>
-    ensures { IfOk result (λ made. made ≡ goal.now ∷ []) }
-{
-    let mut one = Items::new(alloc);
-    one.push(goal.share()?)?;
-    Ok(one)
-}
-
-/// What a tactic makes of one goal.
-pub fn work_on_one(
-    alloc: Global,
-    scope: &Scope,
-    tactic: &Node,
-    goal: &Sequent,
-) -> Result<Sequents, Refused>
-    ensures { (f : Tree → Stepping) → AreRules scope.now f → Answers (works scope.now f tactic.now (goal.now ∷ [])) result }
-{
-    let one = only(alloc, goal)?;
-    work(alloc, scope, tactic, one.as_slice())
-}
-
 /// What a step, a pattern, or what stands behind a `;`, makes of goals.
 #[cycle(tactic)]
-fn work(alloc: Global, scope: &Scope, tree: &Node, goals: &[Sequent]) -> Result<Sequents, Refused>
+pub fn work(
+    alloc: Global,
+    scope: &Scope,
+    tree: &Node,
+    goals: &[Sequent],
+) -> Result<Sequents, Refused>
     ensures { (f : Tree → Stepping) → AreRules scope.now f → Answers (works scope.now f tree.now goals.now) result }
 {
     if is_pattern(tree.head) {
@@ -332,33 +303,12 @@ fn pattern(
 fn fit(alloc: Global, scope: &Scope, tree: &Node, goal: &Sequent) -> Result<Sequents, Refused>
     ensures { (f : Tree → Stepping) → AreRules scope.now f → Answers (fits scope.now f tree.now goal.now) result }
 {
-    let goals = pattern_rule(alloc, scope, tree, goal)?;
-    inside(
-        alloc,
-        scope,
-        tree.head,
-        tree.parts.as_slice(),
-        tree.place,
-        goals,
-    )
-}
-
-/// What stands inside a pattern.
-#[cycle(tactic)]
-fn inside(
-    alloc: Global,
-    scope: &Scope,
-    head: Head,
-    parts: &[Node],
-    place: Place,
-    goals: Sequents,
-) -> Result<Sequents, Refused>
-    ensures { (f : Tree → Stepping) → AreRules scope.now f
-        → Answers (inside head (worked scope.now f head (with_works scope.now f parts.now) place) goals) result }
-{
-    match head {
-        Head::BothPatterns => worked(alloc, scope, head, parts, place, goals.as_slice()),
-        Head::EitherPattern => worked(alloc, scope, head, parts, place, goals.as_slice()),
+    let goals = fitted(tree.head, rule(alloc, scope, tree, goal))?;
+    let parts = tree.parts.as_slice();
+    match tree.head {
+        Head::BothPatterns | Head::EitherPattern => {
+            worked(alloc, scope, tree.head, parts, tree.place, goals.as_slice())
+        }
         _ => Ok(goals),
     }
 }
@@ -380,8 +330,7 @@ fn worked(
             [step] => work(alloc, scope, step, goals),
             _ => on_each(alloc, scope, head, parts, place, goals),
         },
-        Head::EitherPattern => spread(alloc, scope, parts, place, goals),
-        Head::Branches => spread(alloc, scope, parts, place, goals),
+        Head::EitherPattern | Head::Branches => spread(alloc, scope, parts, place, goals),
         _ => on_each(alloc, scope, head, parts, place, goals),
     }
 }
@@ -419,10 +368,9 @@ fn stepped_by(
     ensures { (f : Tree → Stepping) → AreRules scope.now f → Answers (stepped_by scope.now f head (with_works scope.now f parts.now) place goal.now) result }
 {
     match head {
-        Head::Tactic => in_turn(alloc, scope, parts, only(alloc, goal)?),
-        Head::BothPatterns => in_turn(alloc, scope, parts, only(alloc, goal)?),
+        Head::Tactic | Head::BothPatterns => in_turn(alloc, scope, parts, goal),
         Head::Group => match parts {
-            [tactic] => work(alloc, scope, tactic, only(alloc, goal)?.as_slice()),
+            [tactic] => work(alloc, scope, tactic, from_ref(goal)),
             _ => Err(not_built(place)),
         },
         Head::Try => match parts {
@@ -430,7 +378,7 @@ fn stepped_by(
             _ => Err(not_built(place)),
         },
         Head::Repeat => match parts {
-            [count, step] => times(alloc, scope, step, count, only(alloc, goal)?),
+            [count, step] => times(alloc, scope, step, count, goal),
             _ => Err(not_built(place)),
         },
         Head::By => match parts {
@@ -439,8 +387,7 @@ fn stepped_by(
         },
         Head::Rule => with_patterns(alloc, scope, parts, place, goal),
         Head::NoIntroduction => Ok(only(alloc, goal)?),
-        Head::Introduction => introduced(alloc, scope, parts, goal),
-        Head::Move => introduced(alloc, scope, parts, goal),
+        Head::Introduction | Head::Move => introduced(alloc, scope, parts, goal),
         _ => Err(not_built(place)),
     }
 }
@@ -456,8 +403,7 @@ fn by(
 ) -> Result<Sequents, Refused>
     ensures { (f : Tree → Stepping) → AreRules scope.now f → Answers (works scope.now f step.now (goal.now ∷ []) and_then on_each (f (done_at place))) result }
 {
-    let one = only(alloc, goal)?;
-    let left = work(alloc, scope, step, one.as_slice())?;
+    let left = work(alloc, scope, step, from_ref(goal))?;
     done(alloc, scope, place, left.as_slice())
 }
 
@@ -487,7 +433,7 @@ fn ruled(alloc: Global, scope: &Scope, tree: &Node, goal: &Sequent) -> Result<Se
     ensures { (f : Tree → Stepping) → AreRules scope.now f → Answers (ruled f (head_of tree.now) (tree.now, works scope.now f tree.now) goal.now) result }
 {
     match tree.head {
-        Head::Move => work(alloc, scope, tree, only(alloc, goal)?.as_slice()),
+        Head::Move => work(alloc, scope, tree, from_ref(goal)),
         _ => rule(alloc, scope, tree, goal),
     }
 }
@@ -503,19 +449,20 @@ fn introduced(
     ensures { (f : Tree → Stepping) → AreRules scope.now f → Answers (introduced scope.now (with_works scope.now f patterns.now) goal.now) result }
 {
     check_new(alloc, scope, goal, patterns)?;
-    in_turn(alloc, scope, patterns, only(alloc, goal)?)
+    in_turn(alloc, scope, patterns, goal)
 }
 
-/// Steps one after another on goals.
+/// Steps one after another, the first one on a goal.
 #[cycle(tactic)]
 fn in_turn(
     alloc: Global,
     scope: &Scope,
     steps: &[Node],
-    goals: Sequents,
+    goal: &Sequent,
 ) -> Result<Sequents, Refused>
-    ensures { (f : Tree → Stepping) → AreRules scope.now f → Answers (in_turn (each_works scope.now f steps.now) goals) result }
+    ensures { (f : Tree → Stepping) → AreRules scope.now f → Answers (in_turn (each_works scope.now f steps.now) (goal.now ∷ [])) result }
 {
+    let goals = only(alloc, goal)?;
     let mut left = goals;
     for step in steps {
         left = work(alloc, scope, step, left.as_slice())?;
@@ -539,8 +486,7 @@ fn spread(
     }
     let mut left = Items::new(alloc);
     for (i, tactic) in tactics.iter().enumerate() {
-        let one = only(alloc, &goals[i])?;
-        let more = work(alloc, scope, tactic, one.as_slice())?;
+        let more = work(alloc, scope, tactic, from_ref(&goals[i]))?;
         left.append(more)?;
     }
     Ok(left)
@@ -551,26 +497,26 @@ fn spread(
 fn attempt(alloc: Global, scope: &Scope, step: &Node, goal: &Sequent) -> Result<Sequents, Refused>
     ensures { (f : Tree → Stepping) → AreRules scope.now f → Answers (or_left (works scope.now f step.now (goal.now ∷ [])) goal.now) result }
 {
-    let one = only(alloc, goal)?;
-    let made = work(alloc, scope, step, one.as_slice());
-    or_left(one, made)
+    let made = work(alloc, scope, step, from_ref(goal));
+    or_left(alloc, goal, made)
 }
 
-/// A step 1 to 64 times.
+/// A step 1 to 64 times, the first time on a goal.
 #[cycle(tactic)]
 fn times(
     alloc: Global,
     scope: &Scope,
     step: &Node,
     count: &Node,
-    goals: Sequents,
+    goal: &Sequent,
 ) -> Result<Sequents, Refused>
     ensures { (f : Tree → Stepping) → AreRules scope.now f
-        → Answers (times (number_of (text_of count.now)) (place_of count.now) (works scope.now f step.now) goals) result }
+        → Answers (times (number_of (text_of count.now)) (place_of count.now) (works scope.now f step.now) (goal.now ∷ [])) result }
 {
     let Some(rounds) = times_allowed(count) else {
         return Err(argument(count.place));
     };
+    let goals = only(alloc, goal)?;
     let mut left = goals;
     for _ in 0..rounds {
         left = work(alloc, scope, step, left.as_slice())?;

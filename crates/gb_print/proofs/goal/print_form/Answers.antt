@@ -1,7 +1,7 @@
 use Rattle.std.proofs.Common.{sym, subst}
 use Rattle.gb_print_text.specs.Goals.{place_of_form}
-use Rattle.gb_readback.specs.Forms.{form_tree}
-use Rattle.gb_readback.specs.ReadBack.{IsReadAs}
+use Rattle.gb_print.specs.Forms.{form_tree}
+use Rattle.gb_print.specs.ReadBack.{IsReadAs}
 use Rattle.gb_print.proofs.goal.print_form.Goals as goal
 
 pub returns-clause-read : goal.returns-clause-read

@@ -1,6 +1,6 @@
 use Rattle.std.proofs.Common.{sym, subst}
 use Rattle.gb_print_text.specs.Goals.{place_of_goal}
-use Rattle.gb_readback.specs.Goals.{IsGoalReadAs}
+use Rattle.gb_print.specs.Goals.{IsGoalReadAs}
 use Rattle.gb_print.proofs.goal.print_goal.Goals as goal
 
 pub returns-clause-read : goal.returns-clause-read

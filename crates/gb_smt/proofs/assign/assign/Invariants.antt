@@ -1,6 +1,6 @@
 use Rattle.std.proofs.Common.{◌≡◌, ◌<◌, ◌^◌, ◌++◌, true, map, drop, take, length}
 use Rattle.gb_smt.specs.Assign.{with_values}
-use Rattle.gb_variables.proofs.Products.{are_finite}
+use Rattle.gb_equality.proofs.Products.{are_finite}
 use Rattle.gb_smt.proofs.Values.{count, values_at}
 use Rattle.gb_smt.proofs.assign.assign.Given as goal
 

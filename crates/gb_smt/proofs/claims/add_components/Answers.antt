@@ -1,5 +1,5 @@
 use Rattle.std.proofs.Common.{◌≡◌, ◌-◌, ◌++◌, length, sym, ap, ◌∙◌, arith}
-use Rattle.gb_variables.specs.Components.{inside, outside}
+use Rattle.gb_equality.specs.Components.{inside, outside}
 use Rattle.gb_smt.specs.Claims.{claim_of, contradictions, first_variables, components}
 use Rattle.gb_smt.proofs.Parts.{component_added, components_none, components_done}
 use Rattle.gb_smt.proofs.claims.add_components.Goals as goal

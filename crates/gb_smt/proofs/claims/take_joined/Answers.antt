@@ -1,7 +1,7 @@
 use Rattle.std.proofs.Common.{[], ◌∷◌, ◌++◌, ap, ◌∙◌}
 use Rattle.std.proofs.lemmas.Result.{IfOk-weaker}
 use Rattle.gb_smt.specs.Claims.{claim_of}
-use Rattle.gb_variables.proofs.Marks.{marked_inside, marked_outside}
+use Rattle.gb_equality.proofs.Marks.{marked_inside, marked_outside}
 use Rattle.gb_smt.proofs.claims.take_joined.Goals as goal
 
 pub returns-clause-others : goal.returns-clause-others

@@ -2,7 +2,7 @@ use Rattle.std.proofs.Common.{◌≡◌, ◌^◌, [], min, sym, ap, ◌∙◌, s
 use Rattle.gb_eval.proofs.Fuel.{opens}
 use Rattle.gb_smt.specs.Width.{bound_in}
 use Rattle.gb_smt.proofs.Scripts.{open_bound, closed_bound}
-use Rattle.gb_variables.proofs.Products.{product}
+use Rattle.gb_equality.proofs.Products.{product}
 use Rattle.gb_smt.proofs.Sizes.{product_bound, product_bound_more}
 use Rattle.gb_smt.proofs.width.+bound_size.Goals as goal
 

@@ -2,7 +2,7 @@ use Rattle.std.proofs.Common.{◌≡◌, ◌+◌, ◌*◌, ◌^◌, min, take}
 use Rattle.std.specs.List.{flat_map}
 use Rattle.gb_eval.proofs.Fuel.{fuel_in}
 use Rattle.gb_smt.specs.Width.{bound_in, bound_types}
-use Rattle.gb_variables.proofs.Products.{product}
+use Rattle.gb_equality.proofs.Products.{product}
 use Rattle.gb_smt.proofs.width.+bound_size.Given as goal
 
 abbrev pub decreases-bound_size : goal.decreases-bound_size

@@ -2,7 +2,7 @@ use Rattle.std.proofs.Common.{◌^◌, ap, ◌∙◌, map, min}
 use Rattle.std.specs.List.{flat_map}
 use Rattle.gb_smt.specs.Width.{bound_types}
 use Rattle.gb_smt.proofs.Scripts.{all_bound}
-use Rattle.gb_variables.proofs.Products.{product, are_finite}
+use Rattle.gb_equality.proofs.Products.{product, are_finite}
 use Rattle.gb_smt.proofs.Sizes.{card_of_claim}
 use Rattle.gb_smt.proofs.width.number_of_assignments.Goals as goal
 

@@ -1,15 +1,15 @@
 -- The statement is typed, and passes a limit or none.
-use Rattle.std.proofs.Common.{◌≡◌, Bool, false, List, Option, Some, None, is_some, option_map, refl, ap, sym, subst, ◌∙◌}
+use Rattle.std.proofs.Common.{◌≡◌, Bool, false, Option, Some, None, is_some, option_map, refl, ap, sym, subst, ◌∙◌}
 use Rattle.std.specs.Prelude.{Err}
 use Rattle.std.proofs.lemmas.Result.{err_from_is_err_and}
 use Rattle.gb_goal.specs.Answers.{Gives}
 use Rattle.gb_goal.specs.Answers.Answer.{given}
-use Rattle.gb_goal.specs.declared.scope.Binder.{Binder}
 use Rattle.gb_goal.specs.Scope.{Declarations, declarations_in, entry_of}
 use Rattle.gb_state.proofs.New.{lemma_is_new}
 use Rattle.gb_state.specs.Opened.{is_new}
 use Rattle.gb_state.specs.declared.state.Claim.TheVariants as claim
-use Rattle.gb_theory.specs.Built.{Session, with_lemma}
+use Rattle.gb_elab_mod.specs.Lemmas.{binders_in}
+use Rattle.gb_theory.specs.Built.{Session}
 use Rattle.gb_theory.specs.Commands.{opens}
 use Rattle.gb_state.specs.declared.state.OpenProof.{OpenProof}
 use Rattle.gb_theory.specs.Sessions.{open_of, session_of}
@@ -39,8 +39,8 @@ invariant_of-state-2 c =
     record {
       undeclared =
           ap (λ (p : OpenProof). is_new c.statement.new.scope p.claim) c.in_ok-proof.ensures
-          ∙ ap (λ ds. is_new ds (claim.Lemma c.args.name.now q c.in_ok-binders.binders)) c.in_ok-statement.ensures.kept
-          ∙ lemma_is_new c.args.state.now.scope c.args.name.now q c.in_ok-binders.binders free c.in_ok-statement.ensures.new;
+          ∙ ap (λ ds. is_new ds (claim.Lemma c.args.name.now q (binders_in c.args.tree.now))) c.in_ok-statement.ensures.kept
+          ∙ lemma_is_new c.args.state.now.scope c.args.name.now q (binders_in c.args.tree.now) free c.in_ok-statement.ensures.new;
     }
 
 pub returns-clause-session : goal.returns-clause-session
@@ -51,6 +51,5 @@ returns-clause-session c =
     c.in_ok-statement.ensures.answer
     (c.in_ok-check_declarations.ensures ∙ ap (λ ds. limited (declaration_limit (declarations_in ds)) c.args.place) c.in_ok-statement.ensures.kept)
     c.in_ok-check_goal.ensures
-    ∙ ap (λ (bs : List Binder). given (with_lemma (session_of s) c.args.name.now c.in_ok-statement.statement bs)) (sym c.in_ok-binders.ensures)
     ∙ ap (λ (p : OpenProof). given (let t : Session = record { scope = s.scope; proof = Some (open_of p); lemmas = s.lemmas } in t)) (sym c.in_ok-proof.ensures)
     ∙ ap (λ (ds : Declarations). given (let t : Session = record { scope = ds; proof = Some (open_of c.in_ok-proof.proof); lemmas = s.lemmas } in t)) (sym c.in_ok-statement.ensures.kept)

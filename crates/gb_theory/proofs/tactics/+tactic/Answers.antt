@@ -11,19 +11,14 @@ use Rattle.gb_names.proofs.Answers.{answers_as, fails_as, leads_on, passes}
 use Rattle.gb_names.proofs.Parts.{left, two}
 use Rattle.gb_theory.specs.Combinators.{done_at, fitted, gathered_behind, in_turn, inside, introduced, on_each, ruled, spread, stepped_by, times, worked, works}
 use Rattle.gb_theory.specs.Tactics.{each_works, with_works, fits, inner}
-use Rattle.gb_theory.proofs.Combined.{pattern_is, no_pattern_is, rules_alone, tactic_is, both_is, either_is, repeat_is, rule_is, introduced_is, introduced_fails, branches_is, step_is, next_given, next_fails, one_each, pair_given, pair_fails, spread_is, spread_ends, round_given, round_fails, times_is}
+use Rattle.gb_theory.proofs.Combined.{pattern_is, no_pattern_is, fits_on, fits_alone, rules_alone, tactic_is, spread_by, repeat_is, rule_is, introduced_by, introduced_is, introduced_fails, step_is, next_given, next_fails, one_each, pair_given, pair_fails, spread_is, spread_ends, round_given, round_fails, times_is}
 use Rattle.gb_theory.proofs.tactics.+tactic.Goals as goal
 
 pub worked-returns-in-EitherPattern : goal.worked-returns-in-EitherPattern
 worked-returns-in-EitherPattern t c = λ f rules.
     let ds = c.args.scope.now in
-    answers_as _ _ c.spread.result (either_is ds f c.args.head c.args.parts.now c.args.place c.args.goals.now c.in-EitherPattern.is)
+    answers_as _ _ c.spread.result (spread_by ds f c.args.head c.args.parts.now c.args.place c.args.goals.now c.in-EitherPattern.is)
     (c.spread.ensures f rules)
-
-pub worked-returns-in-Branches : goal.worked-returns-in-Branches
-worked-returns-in-Branches t c = λ f rules.
-    let ds = c.args.scope.now in
-    answers_as _ _ c.spread-in-Branches.result (branches_is ds f c.args.head c.args.parts.now c.args.place c.args.goals.now c.in-Branches.is) (c.spread-in-Branches.ensures f rules)
 
 pub worked-returns-in_default : goal.worked-returns-in_default
 worked-returns-in_default t c = λ f rules.
@@ -32,23 +27,24 @@ worked-returns-in_default t c = λ f rules.
     (step_is ds f c.args.head (with_works ds f c.args.parts.now) c.args.place c.args.goals.now c.in_default.not-Next c.in_default.not-EitherPattern c.in_default.not-Branches)
     (c.on_each-in_default.ensures f rules)
 
-pub stepped_by-returns-in_ok-only-in-Tactic : goal.stepped_by-returns-in_ok-only-in-Tactic
-stepped_by-returns-in_ok-only-in-Tactic t c = λ f rules.
+pub stepped_by-returns-in-Tactic : goal.stepped_by-returns-in-Tactic
+stepped_by-returns-in-Tactic t c = λ f rules.
     let ds = c.args.scope.now in
-    answers_as _ _ c.in_turn.result
-    (tactic_is ds f c.args.head c.args.parts.now c.args.place c.args.goal.now c.in-Tactic.is
-    ∙ ap (λ qs. in_turn (each_works ds f c.args.parts.now) qs) (sym c.in_ok-only-in-Tactic.ensures))
-    (c.in_turn.ensures f rules)
+    answers_as _ _ c.in_turn.result (tactic_is ds f c.args.head c.args.parts.now c.args.place c.args.goal.now c.in-Tactic.is) (c.in_turn.ensures f rules)
 
-pub stepped_by-returns-in_ok-only-in-len2 : goal.stepped_by-returns-in_ok-only-in-len2
-stepped_by-returns-in_ok-only-in-len2 t c = λ f rules.
+pub stepped_by-returns-in-Introduction : goal.stepped_by-returns-in-Introduction
+stepped_by-returns-in-Introduction t c = λ f rules.
+    answers_as _ _ c.introduced.result
+    (introduced_by c.args.scope.now f c.args.head c.args.parts.now c.args.place c.args.goal.now c.in-Introduction.is) (c.introduced.ensures f rules)
+
+pub stepped_by-returns-in-len2 : goal.stepped_by-returns-in-len2
+stepped_by-returns-in-len2 t c = λ f rules.
     let ds = c.args.scope.now in
     let n = c.count-item.result in
     let s = c.step-item-then-parts-lt3.result in
     answers_as _ _ c.times.result
     (repeat_is ds f c.args.head c.args.parts.now c.args.place c.args.goal.now n s c.in-Repeat.is
-    (two c.args.parts.now n s c.in-len2.len_at_least c.in-len2.len_below c.count-item.is c.step-item-then-parts-lt3.is)
-    ∙ ap (λ qs. times (number_of (text_of n)) (place_of n) (works ds f s) qs) (sym c.in_ok-only-in-len2.ensures))
+    (two c.args.parts.now n s c.in-len2.len_at_least c.in-len2.len_below c.count-item.is c.step-item-then-parts-lt3.is))
     (c.times.ensures f rules)
 
 pub work-returns-then-is_pattern : goal.work-returns-then-is_pattern
@@ -65,40 +61,38 @@ work-returns t c = λ f rules.
     ∙ ap (λ ts. worked ds f (head_of c.args.tree.now) (with_works ds f ts) (place_of c.args.tree.now) c.args.goals.now) (sym c.as_slice.ensures))
     (c.worked.ensures f rules)
 
-pub fit-returns : goal.fit-returns
-fit-returns t c = λ f rules.
+pub fit-returns-in-BothPatterns : goal.fit-returns-in-BothPatterns
+fit-returns-in-BothPatterns t c = λ f rules.
     let ds = c.args.scope.now in
     let n = c.args.tree.now in
-    answers_as _ _ c.inside.result
-    (leads_on (fitted (head_of n) (f n c.args.goal.now)) (inside (head_of n) (inner ds f n)) c.in_ok-goals.goals (c.in_ok-goals.ensures f rules)
-    ∙ ap (λ ts. inside (head_of n) (worked ds f (head_of n) (with_works ds f ts) (place_of n)) c.in_ok-goals.goals) (sym c.as_slice.ensures))
-    (c.inside.ensures f rules)
+    answers_as _ _ c.worked.result
+    (fits_on ds f n c.args.goal.now c.in_ok-goals.goals c.in-BothPatterns.is (c.in_ok-goals.ensures (f n c.args.goal.now) (c.rule.ensures f rules))
+    ∙ ap (λ qs. inner ds f n qs) (sym c.as_slice.ensures)
+    ∙ ap (λ ts. worked ds f (head_of n) (with_works ds f ts) (place_of n) c.as_slice.result.now) (sym c.as_slice-parts.ensures))
+    (c.worked.ensures f rules)
+
+pub fit-returns-in_default : goal.fit-returns-in_default
+fit-returns-in_default t c = λ f rules.
+    fits_alone c.args.scope.now f c.args.tree.now c.args.goal.now c.in_ok-goals.goals c.in_default.not-BothPatterns c.in_default.not-EitherPattern
+    (c.in_ok-goals.ensures (f c.args.tree.now c.args.goal.now) (c.rule.ensures f rules))
 
 pub introduced-returns : goal.introduced-returns
 introduced-returns t c = λ f rules.
     let ds = c.args.scope.now in
     let ts = c.args.patterns.now in
     answers_as _ _ c.in_turn.result
-    (introduced_is ds f ts c.args.goal.now c.in_ok-check_new.ensures ∙ ap (λ qs. in_turn (each_works ds f ts) qs) (sym c.in_ok-only.ensures))
+    (introduced_is ds f ts c.args.goal.now c.in_ok-check_new.ensures)
     (c.in_turn.ensures f rules)
-
-pub stepped_by-returns-in_ok-only-in-BothPatterns : goal.stepped_by-returns-in_ok-only-in-BothPatterns
-stepped_by-returns-in_ok-only-in-BothPatterns t c = λ f rules.
-    let ds = c.args.scope.now in
-    answers_as _ _ c.in_turn-in-BothPatterns.result
-    (both_is ds f c.args.head c.args.parts.now c.args.place c.args.goal.now c.in-BothPatterns.is
-    ∙ ap (λ qs. in_turn (each_works ds f c.args.parts.now) qs) (sym c.in_ok-only-in-BothPatterns.ensures))
-    (c.in_turn-in-BothPatterns.ensures f rules)
 
 pub by-returns : goal.by-returns
 by-returns t c = λ f rules.
     let ds = c.args.scope.now in
     let n = c.args.step.now in
     let done = on_each (f (done_at c.args.place)) in
-    let one = c.as_slice.ensures ∙ c.in_ok-one.ensures in
     answers_as _ _ c.done.result
-    (leads_on (works ds f n (c.args.goal.now ∷ [])) done c.in_ok-left.left (subst (λ gs. works ds f n gs ≡ given c.in_ok-left.left) one (c.in_ok-left.ensures f rules))
-    ∙ ap done (sym c.as_slice-2.ensures))
+    (leads_on (works ds f n (c.args.goal.now ∷ [])) done c.in_ok-left.left
+    (subst (λ gs. works ds f n gs ≡ given c.in_ok-left.left) c.from_ref.ensures.value (c.in_ok-left.ensures f rules))
+    ∙ ap done (sym c.as_slice.ensures))
     (c.done.ensures f rules)
 
 pub by-returns-in_err-left : goal.by-returns-in_err-left
@@ -106,10 +100,9 @@ by-returns-in_err-left t c = λ f rules.
     let ds = c.args.scope.now in
     let n = c.args.step.now in
     let done = on_each (f (done_at c.args.place)) in
-    let e = err_from_is_err_and c.from_residual-in_err-left.result c.from_residual-in_err-left.ensures.1 in
-    let one = c.as_slice.ensures ∙ c.in_ok-one.ensures in
+    let e = err_from_is_err_and c.from_residual.result c.from_residual.ensures.1 in
     subst (Answers (works ds f n (c.args.goal.now ∷ []) >>= done)) (sym (e.1 ∙ ap Err e.2))
-    (passes (works ds f n (c.args.goal.now ∷ [])) done c.in_err-left.field-0.0 (subst (λ gs. Fails (works ds f n gs) c.in_err-left.field-0.0) one (c.in_err-left.ensures f rules)))
+    (passes (works ds f n (c.args.goal.now ∷ [])) done c.in_err-left.field-0.0 (subst (λ gs. Fails (works ds f n gs) c.in_err-left.field-0.0) c.from_ref.ensures.value (c.in_err-left.ensures f rules)))
 
 pub fit-returns-in_err-goals : goal.fit-returns-in_err-goals
 fit-returns-in_err-goals t c = λ f rules.
@@ -117,7 +110,7 @@ fit-returns-in_err-goals t c = λ f rules.
     let n = c.args.tree.now in
     let e = err_from_is_err_and c.from_residual.result c.from_residual.ensures.1 in
     subst (Answers (fits ds f n c.args.goal.now)) (sym (e.1 ∙ ap Err e.2))
-    (passes (fitted (head_of n) (f n c.args.goal.now)) (inside (head_of n) (inner ds f n)) c.in_err-goals.field-0.0 (c.in_err-goals.ensures f rules))
+    (passes (fitted (head_of n) (f n c.args.goal.now)) (inside (head_of n) (inner ds f n)) c.in_err-goals.field-0.0 (c.in_err-goals.ensures (f n c.args.goal.now) (c.rule.ensures f rules)))
 
 pub introduced-returns-in_err-check_new : goal.introduced-returns-in_err-check_new
 introduced-returns-in_err-check_new t c = λ f rules.
@@ -191,29 +184,27 @@ spread-returns-in_err-more t c = λ f rules.
     let ts = c.args.tactics.now in
     let qs = c.args.goals.now in
     let i = c.loop-i.i in
-    let e = err_from_is_err_and c.from_residual-in_err-more.result c.from_residual-in_err-more.ensures.1 in
-    let one = c.as_slice.ensures ∙ c.in_ok-one.ensures in
+    let e = err_from_is_err_and c.from_residual.result c.from_residual.ensures.1 in
     subst (Answers (spread (each_works ds f ts) c.args.place qs)) (sym (e.1 ∙ ap Err e.2))
     (fails_as _ _ c.in_err-more.field-0.0 (spread_is ds f ts c.args.place qs c.loop-i.invariant.0 ∙ sym (c.loop-i.invariant.1 f rules))
     (pair_fails ds f ts qs i c.index-tactics-i.result c.index-goals-i.result c.loop-i.left
     (left ts i c.index-tactics-i.result c.loop-i-test.true c.index-tactics-i.is)
     (left qs i c.index-goals-i.result (subst (λ n. i < n) c.loop-i.invariant.0 c.loop-i-test.true) c.index-goals-i.is) c.in_err-more.field-0.0
-    (subst (λ gs. Fails (works ds f c.index-tactics-i.result gs) c.in_err-more.field-0.0) one (c.in_err-more.ensures f rules))))
+    (subst (λ gs. Fails (works ds f c.index-tactics-i.result gs) c.in_err-more.field-0.0) c.from_ref.ensures.value (c.in_err-more.ensures f rules))))
 
 pub spread-loop-i-preserved : goal.spread-loop-i-preserved
 spread-loop-i-preserved t c =
     let ds = c.args.scope.now in
     let ts = c.args.tactics.now in
     let qs = c.args.goals.now in
-    let i = c.loop-i.i in
-    let one = c.as_slice.ensures ∙ c.in_ok-one.ensures in (
+    let i = c.loop-i.i in (
       c.loop-i.invariant.0,
       λ f rules.
           ap (λ ls. gathered_behind ls (one_each (each_works ds f (drop (i + 1) ts)) (drop (i + 1) qs))) c.in_ok-append.ensures
           ∙ sym (pair_given ds f ts qs i c.index-tactics-i.result c.index-goals-i.result c.loop-i.left
           (left ts i c.index-tactics-i.result c.loop-i-test.true c.index-tactics-i.is)
           (left qs i c.index-goals-i.result (subst (λ n. i < n) c.loop-i.invariant.0 c.loop-i-test.true) c.index-goals-i.is) c.in_ok-more.more
-          (subst (λ gs. works ds f c.index-tactics-i.result gs ≡ given c.in_ok-more.more) one (c.in_ok-more.ensures f rules)))
+          (subst (λ gs. works ds f c.index-tactics-i.result gs ≡ given c.in_ok-more.more) c.from_ref.ensures.value (c.in_ok-more.ensures f rules)))
           ∙ c.loop-i.invariant.1 f rules,
     )
 
@@ -226,15 +217,18 @@ spread-returns t c = λ f rules.
     ∙ sym (c.loop-i.invariant.1 f rules)
     ∙ spread_ends ds f ts c.loop-i.i c.loop-i.left (drop c.loop-i.i qs) (omega arith)
 
+pub in_turn-loop-step-init : goal.in_turn-loop-step-init
+in_turn-loop-step-init t c = λ f rules. ap (λ qs. in_turn (each_works c.args.scope.now f c.args.steps.now) qs) c.in_ok-goals.ensures
+
 pub times-returns-in_err-left : goal.times-returns-in_err-left
 times-returns-in_err-left t c = λ f rules.
     let ds = c.args.scope.now in
     let n = c.args.count.now in
     let w = works ds f c.args.step.now in
-    let e = err_from_is_err_and c.from_residual.result c.from_residual.ensures.1 in
-    subst (Answers (times (number_of (text_of n)) (place_of n) w c.args.goals)) (sym (e.1 ∙ ap Err e.2))
+    let e = err_from_is_err_and c.from_residual-in_err-left.result c.from_residual-in_err-left.ensures.1 in
+    subst (Answers (times (number_of (text_of n)) (place_of n) w (c.args.goal.now ∷ []))) (sym (e.1 ∙ ap Err e.2))
     (fails_as _ _ c.in_err-left.field-0.0
-    (times_is (number_of (text_of n)) c.in-Some.rounds (place_of n) w c.args.goals (sym c.in-Some.ensures) ∙ sym (c.loop.invariant f rules))
+    (times_is (number_of (text_of n)) c.in-Some.rounds (place_of n) w (c.args.goal.now ∷ []) (sym c.in-Some.ensures) ∙ sym (c.loop.invariant f rules))
     (round_fails w c.in-Some.rounds c.loop.counter c.loop-test.true c.loop.left c.in_err-left.field-0.0
     (subst (λ gs. Fails (w gs) c.in_err-left.field-0.0) c.as_slice.ensures (c.in_err-left.ensures f rules))))
 
@@ -276,5 +270,4 @@ pub attempt-returns : goal.attempt-returns
 attempt-returns t c = λ f rules.
     let ds = c.args.scope.now in
     let w = works ds f c.args.step.now in
-    c.or_left.ensures (w (c.args.goal.now ∷ [])) c.args.goal.now c.in_ok-one.ensures
-    (subst (λ gs. Answers (w gs) c.work-made.result) (c.as_slice.ensures ∙ c.in_ok-one.ensures) (c.work-made.ensures f rules))
+    c.or_left.ensures (w (c.args.goal.now ∷ [])) (subst (λ gs. Answers (w gs) c.work-made.result) c.from_ref.ensures.value (c.work-made.ensures f rules))

@@ -10,7 +10,7 @@ use Rattle.gb_theory.proofs.tactics.+tactic.Given as goal
 abbrev pub invariant-in_turn-loop-step : goal.invariant-in_turn-loop-step
 invariant-in_turn-loop-step l =
     (f : Tree → Stepping) → AreRules l.scope f →
-    in_turn (each_works l.scope f (drop l.step-index l.steps)) l.left ≡ in_turn (each_works l.scope f l.steps) l.fn.goals
+    in_turn (each_works l.scope f (drop l.step-index l.steps)) l.left ≡ in_turn (each_works l.scope f l.steps) (l.goal ∷ [])
 
 abbrev pub invariant-on_each-loop-goal : goal.invariant-on_each-loop-goal
 invariant-on_each-loop-goal l =
@@ -33,4 +33,4 @@ invariant-spread-loop-i l =
 abbrev pub invariant-times-loop : goal.invariant-times-loop
 invariant-times-loop l =
     (f : Tree → Stepping) → AreRules l.scope f →
-    repeated (l.rounds - l.counter) (works l.scope f l.step) l.left ≡ repeated l.rounds (works l.scope f l.step) l.fn.goals
+    repeated (l.rounds - l.counter) (works l.scope f l.step) l.left ≡ repeated l.rounds (works l.scope f l.step) (l.goal ∷ [])

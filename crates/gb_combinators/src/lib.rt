@@ -1,4 +1,0 @@
-//! What `try` and `do` make of what their step makes.
-#![tactic(auto)]
-
-pub mod combinators;

@@ -1,5 +1,0 @@
-use Rattle.gb_labels_laws.proofs.Choices.{choice_is}
-use Rattle.gb_labels_laws.proofs.setting_laws.each_choice.Goals as goal
-
-pub returns : goal.returns
-returns c = choice_is

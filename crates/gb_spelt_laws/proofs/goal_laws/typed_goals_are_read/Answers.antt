@@ -1,4 +1,0 @@
-use Rattle.gb_spelt_laws.proofs.goal_laws.typed_goals_are_read.Goals as goal
-
-pub returns : goal.returns
-returns c = λ ds ss es q k d. c.printed_goals_are_read.ensures ss es q (c.typed_goals_can_be_written.ensures ds ss es q k d)

@@ -1,5 +1,0 @@
-use Rattle.gb_spelt_laws.proofs.NamedGoals.{sequent_spelt}
-use Rattle.gb_spelt_laws.proofs.name_laws.named_goals_are_spelt.Goals as goal
-
-pub returns : goal.returns
-returns c = sequent_spelt

@@ -1,3 +1,0 @@
-pub mod Spelt
-pub mod Named
-pub mod Rules

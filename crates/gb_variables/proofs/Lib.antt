@@ -1,4 +1,0 @@
-pub mod Layers
-pub mod Noted
-pub mod Marks
-pub mod Products

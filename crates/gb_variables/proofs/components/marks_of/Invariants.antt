@@ -1,7 +1,0 @@
-use Rattle.std.proofs.Common.{◌≡◌, map}
-use Rattle.gb_variables.specs.Variables.{variables}
-use Rattle.gb_variables.specs.Components.{joined}
-use Rattle.gb_variables.proofs.components.marks_of.Given as goal
-
-abbrev pub invariant-loop-turn : goal.invariant-loop-turn
-invariant-loop-turn l = l.marks ≡ map (joined l.turn (map variables l.hyps) l.from) (map variables l.hyps)

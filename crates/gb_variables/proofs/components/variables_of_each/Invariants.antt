@@ -1,6 +1,0 @@
-use Rattle.std.proofs.Common.{◌≡◌, map, take}
-use Rattle.gb_variables.specs.Variables.{variables}
-use Rattle.gb_variables.proofs.components.variables_of_each.Given as goal
-
-abbrev pub invariant-loop-hyp : goal.invariant-loop-hyp
-invariant-loop-hyp l = l.all ≡ map variables (take l.hyp-index l.hyps)
