@@ -1,6 +1,6 @@
 -- The test of types decides their equality.
 use Rattle.std.proofs.Common.{◌≡◌, ℕ, ◌==◌, Bool, true, bytes_eq, List, [], ◌∷◌, map, refl, sym, ap, subst, ◌∙◌, ◌↔◌, IsTrue, Decides}
-use Rattle.std.proofs.lemmas.Bool.{and_from, and_parts}
+use Rattle.std.proofs.lemmas.Bool.{and_from, and_parts, false≢true}
 use Rattle.std.proofs.lemmas.Bool.Decides.{Decides-eqb, same_from_decides}
 use Rattle.std.proofs.lemmas.Slice.Eq.{bytes_eq-Decides}
 use Rattle.gb_core.specs.declared.ty.Ty.{Ty, roll-Ty, out-Ty}
@@ -33,7 +33,7 @@ is_types = map-Ty ((t : Ty) × Is t) Ty (λ e. e.0)
 is_all : (es : List ((t : Ty) × Is t)) (ts : List Ty) → all_same (map ty_eq (map (λ e. e.0) es)) ts ≡ true → map (λ e. e.0) es ≡ ts
 is_all [] [] e = refl
 is_all (x ∷ es) (t ∷ ts) e = let p = and_parts _ _ e in λ i. x.1 t p.0 i ∷ is_all es ts p.1 i
-is_all _ _ e = cc
+is_all _ _ e = absurd (false≢true e)
 
 is_layer : (y : IsLayer) (z : Layer) → same_layer (tests (is_types y)) z ≡ true → is_types y ≡ z
 is_layer layer.Unit layer.Unit e = refl
@@ -50,7 +50,7 @@ is_layer (layer.Map x y) (layer.Map t u) e = let p = and_parts _ _ e in λ i. la
 is_layer (layer.Abstract x) (layer.Abstract y) e = ap layer.Abstract ((bytes_eq-Decides x y).0 e)
 is_layer (layer.Glob x) (layer.Glob y) e = ap layer.Glob ((bytes_eq-Decides x y).0 e)
 is_layer (layer.Distr x) (layer.Distr t) e = ap layer.Distr (x.1 t e)
-is_layer _ _ e = cc
+is_layer _ _ e = absurd (false≢true e)
 
 is_rolled : (y : IsLayer) → Is (roll-Ty (is_types y))
 is_rolled y u e = ap roll-Ty (is_layer y (out-Ty u) (sym (test_at (is_types y) u) ∙ e)) ∙ roll-out-Ty u

@@ -50,7 +50,7 @@ impl Value {
 }
 
 /// The size of a type or the width of a claim: exact below 2^63.
-#[derive(Clone, Copy, Debug, PartialEq, Eq)]
+#[derive(Clone, Copy)]
 pub enum Card {
     Exact(u64),
     Above,

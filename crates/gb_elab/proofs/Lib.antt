@@ -6,3 +6,4 @@ pub mod OfWantedType
 pub mod Operands
 pub mod Applied
 pub mod Seen
+pub mod Equations

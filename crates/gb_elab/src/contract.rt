@@ -2,8 +2,6 @@
 
 ghost use Rattle.std.specs.Prelude.{◌≡◌, IfOk};
 ghost use Rattle.std.specs.Option.{option_copied};
-ghost use Rattle.gb_terms.specs.Make.{node};
-ghost use Rattle.gb_terms.specs.declared.term.Head.TheVariants.{Phoare, Proc as procedure_subject};
 ghost use Rattle.gb_goal.specs.Answers.{Answers, ◌>>=◌ as ◌and_then◌};
 ghost use Rattle.gb_goal.specs.Answers.Answer.{given};
 ghost use Rattle.gb_names.specs.Allowed.{judgment};
@@ -24,7 +22,7 @@ use gb_script::tree::Node;
 use gb_terms::make;
 use gb_terms::module::ProcRef;
 use gb_terms::op::{Op, Rel};
-use gb_terms::term::{Form, Head, RealTerm, Subject, Terms};
+use gb_terms::term::{Form, Head, RealTerm, Subject};
 use sqlite_items::Items;
 use std::alloc::{AllocError, Global};
 
@@ -45,10 +43,8 @@ pub fn always(alloc: Global, contract: Contract) -> Result<Form, AllocError>
         pre,
         post,
     } = contract;
-    let mut args = Items::new(alloc);
-    args.push(pre)?;
-    args.push(post)?;
     let ty = make::truth_ty(alloc)?;
+    let args = Items::from_vec(vec![in alloc; pre, post]?);
     make::term(alloc, Head::Hoare(Subject::Proc(procedure)), args, ty)
 }
 
@@ -66,23 +62,8 @@ pub fn with_chance(
         pre,
         post,
     } = contract;
-    let mut args = Items::new(alloc);
-    args.push(pre)?;
-    args.push(post)?;
-    args.push(bound)?;
-    phoare(alloc, procedure, rel, args)
-}
-
-/// The judgment of these arguments.
-fn phoare(
-    alloc: Global,
-    procedure: Shared<ProcRef>,
-    rel: Rel,
-    args: Terms,
-) -> Result<Form, AllocError>
-    ensures { IfOk result (λ made. made ≡ node (Phoare (procedure_subject procedure) rel) args Ty.Bool) }
-{
     let ty = make::truth_ty(alloc)?;
+    let args = Items::from_vec(vec![in alloc; pre, post, bound]?);
     make::term(alloc, Head::Phoare(Subject::Proc(procedure), rel), args, ty)
 }
 

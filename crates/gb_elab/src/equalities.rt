@@ -120,7 +120,6 @@ pub fn equalities(
 }
 
 /// A form and, to its right, further equations.
-#[tactic(auto, unfolding(crate::specs::Equalities::with_equalities))]
 fn with_equalities(
     alloc: Global,
     at: &Setting<'_>,

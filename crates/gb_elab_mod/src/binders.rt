@@ -2,7 +2,7 @@
 
 ghost use Rattle.std.specs.Prelude.{◌≡◌, ◌++◌, map, IfOk};
 ghost use Rattle.gb_goal.specs.declared.scope.Binder.TheVariants.{Value};
-ghost use Rattle.gb_elab_mod.specs.Lemmas.{binders_by, binders_in, binds, each_binds};
+ghost use Rattle.gb_elab_mod.specs.Lemmas.{binders_in, binds, each_binds};
 
 use gb_core::SharedItems;
 use gb_goal::scope::{Binder, Binders};
@@ -57,24 +57,15 @@ fn each_binds(alloc: Global, list: &[Node]) -> Result<Items<Binder>, AllocError>
     Ok(all)
 }
 
-fn binders_by(alloc: Global, head: Head, parts: &[Node]) -> Result<Binders, AllocError>
-    ensures { IfOk result (λ made. made ≡ binders_by head parts.now) }
-{
-    match head {
-        Head::Lemma => match parts {
-            [_, list, _] => {
-                let binders = each_binds(alloc, list.parts.as_slice())?;
-                SharedItems::new(alloc, binders)
-            }
-            _ => SharedItems::empty(alloc),
-        },
-        _ => SharedItems::empty(alloc),
-    }
-}
-
 /// What the binders of a lemma bind, in the order of the text. Nothing of a tree that is no lemma.
 pub fn binders(alloc: Global, tree: &Node) -> Result<Binders, AllocError>
     ensures { IfOk result (λ made. made ≡ binders_in tree.now) }
 {
-    binders_by(alloc, tree.head, tree.parts.as_slice())
+    match (tree.head, tree.parts.as_slice()) {
+        (Head::Lemma, [_, list, _]) => {
+            let binders = each_binds(alloc, list.parts.as_slice())?;
+            SharedItems::new(alloc, binders)
+        }
+        _ => SharedItems::empty(alloc),
+    }
 }

@@ -4,8 +4,8 @@ ghost use Rattle.std.specs.Prelude.{◌≡◌, Some, bytes_eq};
 ghost use Rattle.std.specs.List.{list_any};
 ghost use Rattle.gb_goal.specs.Answers.{Answers, ◌>>=◌ as ◌and_then◌};
 ghost use Rattle.gb_goal.specs.Answers.Answer.{given};
-ghost use Rattle.gb_elab_mod.specs.Steps.{case_rule, conclusion_rule, formed, have_rule, sided_case_rule};
-ghost use Rattle.gb_elab_mod.specs.Taken.{is_taken, new_name, unbound};
+ghost use Rattle.gb_elab_mod.specs.Steps.{case_rule, conclusion_rule, have_rule, sided_case_rule};
+ghost use Rattle.gb_elab_mod.specs.Taken.{is_taken, new_name};
 
 use crate::cut::case_of_bodies;
 use gb_core::name::Name;
@@ -14,7 +14,7 @@ use gb_core::refusal::Refused;
 use gb_core::same::same_name;
 use gb_core::ty::Ty;
 use gb_elab::form::term;
-use gb_goal::goal::{goal_of, judges_bodies};
+use gb_goal::goal::judges_bodies;
 use gb_goal::scope::Scope;
 use gb_goal::sequent::{Hyp, Sequent};
 use gb_names::refusals::{double, not_built};
@@ -22,7 +22,6 @@ use gb_script::tree::Node;
 use gb_steps::step::{Acts, AmbientRule, BodyRule, Rule};
 use gb_terms::decl::TypedName;
 use gb_terms::module::Bind;
-use gb_terms::term::Form;
 use std::alloc::Global;
 
 /// The steps on a conclusion that stand alone.
@@ -76,16 +75,6 @@ pub fn is_taken(goal: &Sequent, name: &Name) -> bool
                 || is_hypothesis(goal.hyps.as_slice(), name)))
 }
 
-/// Refuses a name that an abstract module has which the lemma of a goal binds.
-pub fn check_unbound(alloc: Global, scope: &Scope, name: &Name, place: Place) -> Result<(), Refused>
-    ensures { Answers (unbound scope.now name.now place) result }
-{
-    match scope.abstract_module(name) {
-        Some(_) => Err(double(alloc, name, place)),
-        None => Ok(()),
-    }
-}
-
 /// Refuses a name that the context of a goal has already, or an abstract module which its lemma binds.
 pub fn check_new(
     alloc: Global,
@@ -96,17 +85,11 @@ pub fn check_new(
 ) -> Result<(), Refused>
     ensures { Answers (new_name scope.now goal.now name.now place) result }
 {
-    if is_taken(goal, name) {
-        return Err(double(alloc, name, place));
+    if is_taken(goal, name) || scope.abstract_module(name).is_some() {
+        Err(double(alloc, name, place))
+    } else {
+        Ok(())
     }
-    check_unbound(alloc, scope, name, place)
-}
-
-/// A form that a step brings to a goal.
-fn formed(alloc: Global, scope: &Scope, goal: &Sequent, tree: &Node) -> Result<Form, Refused>
-    ensures { Answers (formed scope.now goal.now tree.now) result }
-{
-    term(alloc, scope, goal, tree, Some(&Ty::Bool))
 }
 
 /// The rule that works by cases on a form, on a judgment of bodies or on another conclusion.
@@ -114,10 +97,9 @@ fn case_rule(alloc: Global, scope: &Scope, goal: &Sequent, form: &Node) -> Resul
     ensures { Answers (case_rule scope.now goal.now form.now) result }
 {
     if judges_bodies(&goal.conclusion) {
-        let rule = case_of_bodies(alloc, scope, goal, form, goal_of(&goal.conclusion))?;
-        return Ok(Rule::OnBodies(rule));
+        return case_of_bodies(alloc, scope, goal, form);
     }
-    let form = formed(alloc, scope, goal, form)?;
+    let form = term(alloc, scope, goal, form, Some(&Ty::Bool))?;
     Ok(Rule::Ambient(AmbientRule::Case(form)))
 }
 
@@ -148,7 +130,7 @@ pub fn have_rule(
     ensures { Answers (have_rule scope.now goal.now name.now form.now) result }
 {
     check_new(alloc, scope, goal, &name.text, name.place)?;
-    let form = formed(alloc, scope, goal, form)?;
     let name = name.text.copy(alloc)?;
+    let form = term(alloc, scope, goal, form, Some(&Ty::Bool))?;
     Ok(Rule::Ambient(AmbientRule::Have(name, form)))
 }

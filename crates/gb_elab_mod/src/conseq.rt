@@ -20,6 +20,7 @@ use gb_script::tree::Node;
 use gb_steps::step::{Acts, BodyRule, Rule, Weakened};
 use gb_terms::decl::Typed;
 use gb_terms::op::Side;
+use gb_terms::share::copy_typed;
 use gb_terms::term::{Form, Term};
 use std::alloc::{AllocError, Global};
 
@@ -52,7 +53,7 @@ fn locals_before(
         Code::Body(list) => {
             occurring_between(alloc, scope, conditions.pre, conditions.post, side, list)
         }
-        Code::Procedure(named) => params_of(alloc, scope, named),
+        Code::Procedure(named) => copy_typed(alloc, params_of(scope, named)),
     }
 }
 
@@ -99,13 +100,13 @@ fn said_anew(
     after: &Setting<'_>,
     around: &Setting<'_>,
     written: &Written<'_>,
-) -> Result<BodyRule, Refused>
-    ensures { Answers (said_anew (environment before.now) (environment after.now) (environment around.now) (parts_of written.now.pre.now) (parts_of written.now.post.now) (parts_of written.now.bound.now)) result }
+) -> Result<Rule, Refused>
+    ensures { Answers (of_bodies_rule (said_anew (environment before.now) (environment after.now) (environment around.now) (parts_of written.now.pre.now) (parts_of written.now.post.now) (parts_of written.now.bound.now))) result }
 {
     let pre = term_if(alloc, before, &Ty::Bool, written.pre)?;
     let post = term_if(alloc, after, &Ty::Bool, written.post)?;
     let bound = term_if(alloc, around, &Ty::Real, written.bound)?;
-    Ok(BodyRule::Conseq(Weakened { pre, post, bound }))
+    Ok(Rule::OnBodies(BodyRule::Conseq(Weakened { pre, post, bound })))
 }
 
 /// What is written at a judgment of one program.
@@ -116,11 +117,11 @@ fn of_one<'a>(
     code: Code<'_>,
     conditions: Conditions<'_>,
     written: &Written<'_>,
-) -> Result<BodyRule, Refused>
-    ensures { Answers (said_anew
+) -> Result<Rule, Refused>
+    ensures { Answers (of_bodies_rule (said_anew
         (unary scope.now goal.now (locals_before scope.now conditions.entry.pre.now conditions.entry.post.now Side.Own (code_seen code.entry)))
         (unary scope.now goal.now (locals_after scope.now conditions.entry.pre.now conditions.entry.post.now Side.Own (code_seen code.entry)))
-        (ambient scope.now goal.now) (parts_of written.now.pre.now) (parts_of written.now.post.now) (parts_of written.now.bound.now)) result }
+        (ambient scope.now goal.now) (parts_of written.now.pre.now) (parts_of written.now.post.now) (parts_of written.now.bound.now))) result }
 {
     let before = locals_before(alloc, scope, conditions, Side::Own, code)?;
     let after = locals_after(alloc, scope, conditions, Side::Own, code)?;
@@ -143,13 +144,13 @@ fn of_two<'a>(
     codes: (Code<'_>, Code<'_>),
     conditions: Conditions<'_>,
     written: &Written<'_>,
-) -> Result<BodyRule, Refused>
-    ensures { Answers (said_anew
+) -> Result<Rule, Refused>
+    ensures { Answers (of_bodies_rule (said_anew
         (relational scope.now goal.now (locals_before scope.now conditions.entry.pre.now conditions.entry.post.now Side.Left (code_seen codes.entry.0))
         (locals_before scope.now conditions.entry.pre.now conditions.entry.post.now Side.Right (code_seen codes.entry.1)))
         (relational scope.now goal.now (locals_after scope.now conditions.entry.pre.now conditions.entry.post.now Side.Left (code_seen codes.entry.0))
         (locals_after scope.now conditions.entry.pre.now conditions.entry.post.now Side.Right (code_seen codes.entry.1)))
-        (ambient scope.now goal.now) (parts_of written.now.pre.now) (parts_of written.now.post.now) (parts_of written.now.bound.now)) result }
+        (ambient scope.now goal.now) (parts_of written.now.pre.now) (parts_of written.now.post.now) (parts_of written.now.bound.now))) result }
 {
     let (left, right) = codes;
     let here = locals_before(alloc, scope, conditions, Side::Left, left)?;
@@ -175,8 +176,8 @@ fn conseq_of(
     goal: &Sequent,
     seen: Goal<'_>,
     written: &Written<'_>,
-) -> Result<BodyRule, Refused>
-    ensures { Answers (conseq_of scope.now goal.now (goal_seen seen.entry) (parts_of written.now.pre.now) (parts_of written.now.post.now) (parts_of written.now.bound.now)) result }
+) -> Result<Rule, Refused>
+    ensures { Answers (of_bodies_rule (conseq_of scope.now goal.now (goal_seen seen.entry) (parts_of written.now.pre.now) (parts_of written.now.post.now) (parts_of written.now.bound.now))) result }
 {
     match seen {
         Goal::Hoare(code, pre, post) | Goal::Phoare(code, _, pre, post, _) => {
@@ -192,7 +193,7 @@ fn conseq_of(
                 written,
             )
         }
-        Goal::Ambient(_) => Ok(BodyRule::Unfit),
+        Goal::Ambient(_) => Ok(Rule::OnBodies(BodyRule::Unfit)),
     }
 }
 
@@ -211,10 +212,7 @@ pub fn conseq_rule(
     ensures { Answers (of_bodies_rule (conseq_rule scope.now goal.now acts (parts_of written.now.pre.now) (parts_of written.now.post.now) (parts_of written.now.bound.now))) result }
 {
     match acts {
-        Acts::All => {
-            let rule = conseq_of(alloc, scope, goal, goal_of(&goal.conclusion), written)?;
-            Ok(Rule::OnBodies(rule))
-        }
+        Acts::All => conseq_of(alloc, scope, goal, goal_of(&goal.conclusion), written),
         _ => Ok(Rule::OnBodies(BodyRule::Unfit)),
     }
 }

@@ -11,25 +11,22 @@ ghost use Rattle.gb_elab.specs.Forms.{elaborated};
 ghost use Rattle.gb_names.specs.Environment.{relational, unary};
 ghost use Rattle.gb_elab_mod.specs.OnPrograms.{call_rule, contract_at, contract_of, contract_of_both, contract_on, last_procedure, params_if, procedure_called, related, result_if, said_around};
 
+use crate::forms::{form_on_one, form_on_two};
 use crate::kept::calls_rule;
 use crate::uses::used;
 use gb_core::place::Place;
 use gb_core::refusal::Refused;
-use gb_core::ty::Ty;
-use gb_elab::form::typed;
 use gb_goal::goal::{Code, Goal, goal_of};
 use gb_goal::interface::procedure_type;
 use gb_goal::scope::Scope;
 use gb_goal::sequent::Sequent;
 use gb_names::judgment::result_of;
 use gb_names::refusals::not_built;
-use gb_names::setting::Setting;
 use gb_script::head::Head;
 use gb_script::tree::Node;
 use gb_steps::step::{Acts, BodyRule, Contract, Rule};
-use gb_terms::decl::Typed;
+use gb_terms::decl::{Typed, TypedName};
 use gb_terms::module::ProcRef;
-use gb_terms::share::copy_typed;
 use gb_terms::term::{Form, Instr};
 use sqlite_items::Items;
 use std::alloc::{AllocError, Global};
@@ -56,12 +53,12 @@ fn last_procedure(body: &[Instr]) -> Option<&ProcRef>
 }
 
 /// The parameters of a procedure that may be declared.
-pub fn params_of(alloc: Global, scope: &Scope, procedure: &ProcRef) -> Result<Typed, AllocError>
-    ensures { IfOk result (λ made. made ≡ params_if (procedure_type scope.now None procedure.now)) }
+pub fn params_of<'a>(scope: &'a Scope, procedure: &ProcRef) -> &'a [TypedName]
+    ensures { result.now ≡ params_if (procedure_type scope.now None procedure.now) }
 {
     match procedure_type(scope, None, procedure) {
-        Some(ty) => copy_typed(alloc, ty.params),
-        None => Ok(Items::new(alloc)),
+        Some(ty) => ty.params,
+        None => &[],
     }
 }
 
@@ -82,22 +79,7 @@ pub struct Said<'a> {
     pub post: &'a Node,
 }
 
-/// A form over the parameters of a procedure.
-fn said_before(
-    alloc: Global,
-    scope: &Scope,
-    goal: &Sequent,
-    said: &Node,
-    procedure: &ProcRef,
-) -> Result<Form, Refused>
-    ensures { Answers (elaborated said.now (unary scope.now goal.now (params_if (procedure_type scope.now None procedure.now))) [] (Some Bool)) result }
-{
-    let params = params_of(alloc, scope, procedure)?;
-    let before = Setting::unary(scope, goal, params.as_slice());
-    typed(alloc, &before, &[], said, Some(&Ty::Bool))
-}
-
-/// A form over its result.
+/// A form over the result of a procedure.
 ///
 /// # Errors
 ///
@@ -112,8 +94,7 @@ pub fn said_after(
     ensures { Answers (elaborated said.now (unary scope.now goal.now (result_if (procedure_type scope.now None procedure.now))) [] (Some Bool)) result }
 {
     let result = result_if(alloc, scope, procedure)?;
-    let after = Setting::unary(scope, goal, result.as_slice());
-    typed(alloc, &after, &[], said, Some(&Ty::Bool))
+    form_on_one(alloc, scope, goal, result.as_slice(), said)
 }
 
 /// What is said before and after one procedure: a form over its parameters, and one over its result.
@@ -131,7 +112,7 @@ pub fn said_around(
 ) -> Result<(Form, Form), Refused>
     ensures { Answers (said_around scope.now goal.now said.entry.pre.now said.entry.post.now procedure.now) result }
 {
-    let pre = said_before(alloc, scope, goal, said.pre, procedure)?;
+    let pre = form_on_one(alloc, scope, goal, params_of(scope, procedure), said.pre)?;
     let post = said_after(alloc, scope, goal, said.post, procedure)?;
     Ok((pre, post))
 }
@@ -155,24 +136,7 @@ fn contract_of(
     Ok(Rule::Call(Contract { acts, pre, post }))
 }
 
-/// A form over the parameters of two called procedures.
-fn before_both(
-    alloc: Global,
-    scope: &Scope,
-    goal: &Sequent,
-    said: &Node,
-    left: &ProcRef,
-    right: &ProcRef,
-) -> Result<Form, Refused>
-    ensures { Answers (elaborated said.now (relational scope.now goal.now (params_if (procedure_type scope.now None left.now)) (params_if (procedure_type scope.now None right.now))) [] (Some Bool)) result }
-{
-    let params = params_of(alloc, scope, left)?;
-    let others = params_of(alloc, scope, right)?;
-    let before = Setting::relational(scope, goal, params.as_slice(), others.as_slice());
-    typed(alloc, &before, &[], said, Some(&Ty::Bool))
-}
-
-/// A form over the results of both.
+/// A form over the results of two procedures.
 fn after_both(
     alloc: Global,
     scope: &Scope,
@@ -185,8 +149,14 @@ fn after_both(
 {
     let result = result_if(alloc, scope, left)?;
     let other = result_if(alloc, scope, right)?;
-    let after = Setting::relational(scope, goal, result.as_slice(), other.as_slice());
-    typed(alloc, &after, &[], said, Some(&Ty::Bool))
+    form_on_two(
+        alloc,
+        scope,
+        goal,
+        result.as_slice(),
+        other.as_slice(),
+        said,
+    )
 }
 
 /// What relates two procedures: a form over the parameters of both, and one over both results.
@@ -205,7 +175,8 @@ pub fn related(
 ) -> Result<(Form, Form), Refused>
     ensures { Answers (related scope.now goal.now said.entry.pre.now said.entry.post.now left.now right.now) result }
 {
-    let pre = before_both(alloc, scope, goal, said.pre, left, right)?;
+    let (params, others) = (params_of(scope, left), params_of(scope, right));
+    let pre = form_on_two(alloc, scope, goal, params, others, said.pre)?;
     let post = after_both(alloc, scope, goal, said.post, left, right)?;
     Ok((pre, post))
 }

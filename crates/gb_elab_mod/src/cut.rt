@@ -1,6 +1,7 @@
 // The forms that `seq`, `case` and `while` say of bodies.
 
 ghost use Rattle.std.specs.Prelude.{◌≡◌, [], ◌∷◌, Some};
+ghost use Rattle.gb_core.specs.declared.ty.Ty.TheVariants.{Bool};
 ghost use Rattle.gb_terms.specs.declared.op.Side.TheVariants.{Own, Left, Right};
 ghost use Rattle.gb_names.specs.Environment.{relational, unary};
 ghost use Rattle.gb_elab.specs.Forms.{elaborated};
@@ -8,21 +9,20 @@ ghost use Rattle.gb_elab_mod.specs.Occurring.{occurring};
 ghost use Rattle.gb_script.specs.Tree.{parts_of};
 ghost use Rattle.gb_elab_prog.specs.Unbuilt.{absent};
 ghost use Rattle.gb_goal.specs.Answers.{Answers, ◌>>=◌ as ◌and_then◌};
+ghost use Rattle.gb_goal.specs.Goal.{goal_of};
 ghost use Rattle.gb_goal.specs.Views.{goal_seen};
 ghost use Rattle.gb_elab_mod.specs.Multiples.{position};
 ghost use Rattle.gb_elab_mod.specs.OnPrograms.{case_of_bodies, cut_of, cut_rule, of_bodies_rule, said_of_bodies, seq_rule, while_rule};
 
+use crate::forms::{form_on_one, form_on_two};
 use crate::occurring::occurring_between;
 use gb_core::place::Place;
 use gb_core::refusal::Refused;
-use gb_core::ty::Ty;
-use gb_elab::form::typed;
 use gb_elab_prog::unbuilt::refuse_any;
 use gb_goal::goal::{Code, Goal, goal_of};
 use gb_goal::scope::Scope;
 use gb_goal::sequent::Sequent;
 use gb_limits::numbers::number;
-use gb_names::setting::Setting;
 use gb_script::tree::Node;
 use gb_steps::step::{Acts, BodyRule, Cut, Invariant, Rule};
 use gb_terms::op::Side;
@@ -67,11 +67,10 @@ fn on_one(
     post: &Form,
     tree: &Node,
 ) -> Result<Form, Refused>
-    ensures { Answers (elaborated tree.now (unary scope.now goal.now (occurring scope.now (pre.now ∷ post.now ∷ []) Own body.now)) [] (Some Ty.Bool)) result }
+    ensures { Answers (elaborated tree.now (unary scope.now goal.now (occurring scope.now (pre.now ∷ post.now ∷ []) Own body.now)) [] (Some Bool)) result }
 {
     let locals = occurring_between(alloc, scope, pre, post, Side::Own, body)?;
-    let setting = Setting::unary(scope, goal, locals.as_slice());
-    typed(alloc, &setting, &[], tree, Some(&Ty::Bool))
+    form_on_one(alloc, scope, goal, locals.as_slice(), tree)
 }
 
 /// A form over the locals that occur in an equivalence of two bodies.
@@ -84,13 +83,12 @@ fn on_two(
     post: &Form,
     tree: &Node,
 ) -> Result<Form, Refused>
-    ensures { Answers (elaborated tree.now (relational scope.now goal.now (occurring scope.now (pre.now ∷ post.now ∷ []) Left bodies.entry.0.now) (occurring scope.now (pre.now ∷ post.now ∷ []) Right bodies.entry.1.now)) [] (Some Ty.Bool)) result }
+    ensures { Answers (elaborated tree.now (relational scope.now goal.now (occurring scope.now (pre.now ∷ post.now ∷ []) Left bodies.entry.0.now) (occurring scope.now (pre.now ∷ post.now ∷ []) Right bodies.entry.1.now)) [] (Some Bool)) result }
 {
     let (left, right) = bodies;
     let left = occurring_between(alloc, scope, pre, post, Side::Left, left)?;
     let right = occurring_between(alloc, scope, pre, post, Side::Right, right)?;
-    let setting = Setting::relational(scope, goal, left.as_slice(), right.as_slice());
-    typed(alloc, &setting, &[], tree, Some(&Ty::Bool))
+    form_on_two(alloc, scope, goal, left.as_slice(), right.as_slice(), tree)
 }
 
 /// The form between the parts of the bodies of a goal that is seen so.
@@ -143,7 +141,7 @@ fn said_of_bodies(
     }
 }
 
-/// The typed step of `case`, with its form, at a judgment of bodies that is seen so.
+/// The typed step of `case`, with its form, at a judgment of bodies.
 ///
 /// # Errors
 ///
@@ -153,13 +151,12 @@ pub fn case_of_bodies(
     scope: &Scope,
     goal: &Sequent,
     form: &Node,
-    seen: Goal<'_>,
-) -> Result<BodyRule, Refused>
-    ensures { Answers (case_of_bodies scope.now goal.now form.now (goal_seen seen.entry)) result }
+) -> Result<Rule, Refused>
+    ensures { Answers (of_bodies_rule (case_of_bodies scope.now goal.now form.now (goal_of goal.now.conclusion))) result }
 {
-    match said_of_bodies(alloc, scope, goal, form, seen)? {
-        Some(form) => Ok(BodyRule::Case(form)),
-        None => Ok(BodyRule::Unfit),
+    match said_of_bodies(alloc, scope, goal, form, goal_of(&goal.conclusion))? {
+        Some(form) => Ok(Rule::OnBodies(BodyRule::Case(form))),
+        None => Ok(Rule::OnBodies(BodyRule::Unfit)),
     }
 }
 

@@ -68,7 +68,7 @@ pub fn splitting_rule(
     if procedure_type(scope, None, procedure.get()).is_none() {
         return Ok(Rule::OnBodies(BodyRule::Unfit));
     }
-    let event = said_after(alloc, scope, goal, event, procedure.get())?;
     let procedure = procedure.share()?;
+    let event = said_after(alloc, scope, goal, event, procedure.get())?;
     Ok(Rule::Rewrite(RewriteRule::Law(EventLaw::Split(procedure, event))))
 }

@@ -6,13 +6,11 @@ ghost use Rattle.gb_goal.specs.Answers.Answer.{given};
 ghost use Rattle.gb_goal.specs.Views.{goal_seen};
 ghost use Rattle.gb_elab_mod.specs.OnPrograms.{calls_by, kept_of, kept_on, procedures_by};
 
+use crate::forms::{form_on_one, form_on_two};
 use gb_core::refusal::Refused;
-use gb_core::ty::Ty;
-use gb_elab::form::typed;
 use gb_goal::goal::{Goal, goal_of};
 use gb_goal::scope::Scope;
 use gb_goal::sequent::Sequent;
-use gb_names::setting::Setting;
 use gb_script::tree::Node;
 use gb_steps::step::{AbstractRule, Acts, BodyRule, Rule};
 use gb_terms::term::Form;
@@ -29,13 +27,17 @@ fn kept_of(
 ) -> Result<Option<Form>, Refused>
     ensures { Answers (kept_of scope.now goal.now kept.now (goal_seen seen.entry)) result }
 {
-    let setting = match seen {
-        Goal::Hoare(..) => Setting::unary(scope, goal, &[]),
-        Goal::Equiv(..) => Setting::relational(scope, goal, &[], &[]),
-        _ => return Ok(None),
-    };
-    let form = typed(alloc, &setting, &[], kept, Some(&Ty::Bool))?;
-    Ok(Some(form))
+    match seen {
+        Goal::Hoare(..) => {
+            let form = form_on_one(alloc, scope, goal, &[], kept)?;
+            Ok(Some(form))
+        }
+        Goal::Equiv(..) => {
+            let form = form_on_two(alloc, scope, goal, &[], &[], kept)?;
+            Ok(Some(form))
+        }
+        _ => Ok(None),
+    }
 }
 
 /// The same of a step that acts on these programs.

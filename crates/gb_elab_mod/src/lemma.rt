@@ -8,11 +8,10 @@ ghost use Rattle.gb_script.specs.Tree.{text_of};
 ghost use Rattle.gb_goal.specs.Binders.{binder_entries};
 ghost use Rattle.gb_goal.specs.Scope.{AreNew, entry_of};
 ghost use Rattle.gb_goal.specs.Answers.{Answers};
-ghost use Rattle.gb_elab_mod.specs.Lemmas.{claimed, lemma_name, name_in, stated, statement_by, statement_given};
+ghost use Rattle.gb_elab_mod.specs.Lemmas.{claimed, lemma_name, stated, statement_given};
 
 use gb_core::SharedItems;
-use gb_core::place::Place;
-use gb_core::refusal::{Refused, Why};
+use gb_core::refusal::Refused;
 use gb_core::ty::Ty;
 use gb_elab::form::typed;
 use gb_elab_prog::context::{Bound, all_bound, context_of};
@@ -41,29 +40,12 @@ pub fn statement(alloc: Global, scope: &mut Scope, tree: &Node) -> Result<Sequen
     ensures kept { OnOk result (scope.new ≡ scope.old) }
     ensures refused { (why : Why) (place : Place) → result ≡ Err (Script why place) → scope.new ≡ scope.old }
 {
-    statement_by(alloc, scope, tree.head, tree.parts.as_slice(), tree.place)
-}
-
-/// The same of a tree, by its head and its parts.
-fn statement_by(
-    alloc: Global,
-    scope: &mut Scope,
-    head: Head,
-    parts: &[Node],
-    place: Place,
-) -> Result<Sequent, Refused>
-    ensures answer { Answers (statement_by scope.old head parts.now place) result }
-    ensures free { OnOk result (entry_of scope.old (name_in parts.now) ≡ None) }
-    ensures new { IfOk result (λ q. AreNew scope.old (binder_entries q.modules)) }
-    ensures kept { OnOk result (scope.new ≡ scope.old) }
-    ensures refused { (why : Why) (place : Place) → result ≡ Err (Script why place) → scope.new ≡ scope.old }
-{
-    match head {
-        Head::Lemma => match parts {
+    match tree.head {
+        Head::Lemma => match tree.parts.as_slice() {
             [name, binders, form] => stated(alloc, scope, name, binders.parts.as_slice(), form),
-            _ => Err(not_built(place)),
+            _ => Err(not_built(tree.place)),
         },
-        _ => Err(not_built(place)),
+        _ => Err(not_built(tree.place)),
     }
 }
 
@@ -102,6 +84,8 @@ fn claimed(alloc: Global, scope: &Scope, bound: Bound, form: &Node) -> Result<Se
     let at = Setting::statement(scope, &around);
     let conclusion = small(typed(alloc, &at, &[], form, Some(&Ty::Bool))?)?;
     let modules = SharedItems::new(alloc, modules)?;
-    let stated = around.with_conclusion(conclusion)?;
-    stated.with_modules(modules).map_err(Refused::from)
+    let mut stated = around;
+    stated.conclusion = conclusion;
+    stated.modules = modules;
+    Ok(stated)
 }

@@ -10,6 +10,7 @@ pub mod couplings;
 pub mod cut;
 pub mod equals;
 mod events;
+mod forms;
 pub mod kept;
 pub mod lemma;
 pub mod multiples;

@@ -138,6 +138,14 @@ fn in_target(alloc: Global, found: &mut Typed, var: &Var, from: &Term) -> Result
     }
 }
 
+/// Adds the local that a variable is which takes a part of this type.
+fn in_part(alloc: Global, found: &mut Typed, var: &Var, ty: &Ty) -> Result<(), AllocError>
+    ensures { OnOk result (found.new ≡ with_all found.old (local var.now ty.now)) }
+{
+    let ty = Shared::new(alloc, copy_ty(alloc, ty)?)?;
+    add_variable(alloc, found, var, &ty)
+}
+
 /// Adds the locals that variables of these types are.
 #[tactic(auto, using(crate::proofs::Found::with_append))]
 fn in_parts(alloc: Global, found: &mut Typed, vars: &[Var], types: &[Ty]) -> Result<(), AllocError>
@@ -148,8 +156,7 @@ fn in_parts(alloc: Global, found: &mut Typed, vars: &[Var], types: &[Ty]) -> Res
         [var, others @ ..] => match types {
             [] => Ok(()),
             [ty, rest @ ..] => {
-                let ty = Shared::new(alloc, copy_ty(alloc, ty)?)?;
-                add_variable(alloc, found, var, &ty)?;
+                in_part(alloc, found, var, ty)?;
                 in_parts(alloc, found, others, rest)
             }
         },

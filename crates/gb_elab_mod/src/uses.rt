@@ -20,7 +20,7 @@ use gb_core::place::Place;
 use gb_core::refusal::Refused;
 use gb_core::same::same_name;
 use gb_core::ty::Ty;
-use gb_elab::form::typed;
+use gb_elab::form::term;
 use gb_goal::scope::{Binder, Scope};
 use gb_goal::sequent::{Hyp, Sequent};
 use gb_names::memories::memory_at;
@@ -71,17 +71,22 @@ fn value_of(
     if is_memory(tree.head) {
         return Err(argument(tree.place));
     }
-    let at = Setting::ambient(scope, goal);
-    typed(alloc, &at, &[], tree, Some(ty))
+    term(alloc, scope, goal, tree, Some(ty))
 }
 
-/// A form with a term in place of the bound variable.
-fn at_term(alloc: Global, form: &Form, term: Term) -> Result<Form, AllocError>
-    ensures { IfOk result (λ made. made ≡ term_changed form.now (OfBound 0 term ∷ [])) }
+/// What the body of a `forall` over values of this type says of an argument.
+fn said_of_value(
+    alloc: Global,
+    scope: &Scope,
+    goal: &Sequent,
+    ty: &Ty,
+    body: &Form,
+    tree: &Node,
+) -> Result<Form, Refused>
+    ensures { Answers (value_of scope.now goal.now ty.now tree.now and_then λ t. given (term_changed body.now (OfBound 0 t ∷ []))) result }
 {
-    let mut changes = Items::new(alloc);
-    changes.push(Change::OfBound(0, term))?;
-    changed(alloc, form, changes.as_slice())
+    let term = value_of(alloc, scope, goal, ty, tree)?;
+    Ok(changed(alloc, body, &[Change::OfBound(0, term)])?)
 }
 
 /// The memory of the context that an argument names.
@@ -101,9 +106,7 @@ pub fn memory_of(alloc: Global, scope: &Scope, goal: &Sequent, tree: &Node) -> R
 pub fn about_named(alloc: Global, form: &Form, memory: Side) -> Result<Form, AllocError>
     ensures { IfOk result (λ made. made ≡ about_named form.now memory) }
 {
-    let mut changes = Items::new(alloc);
-    changes.push(Change::ToSide(Side::Bound(0), memory))?;
-    changed(alloc, form, changes.as_slice())
+    changed(alloc, form, &[Change::ToSide(Side::Bound(0), memory)])
 }
 
 /// What the body of a `forall` over memories says of a memory. Where it reads locals there that the goal doesn't, this isn't built.
@@ -134,10 +137,7 @@ fn said_of(
     ensures { Answers (said_of scope.now goal.now (out-Term form.now).head (out-Term form.now).args tree.now) result }
 {
     match (form.head.get(), form.args.as_slice()) {
-        (Head::All(ty), [body]) => {
-            let term = value_of(alloc, scope, goal, ty.get(), tree)?;
-            Ok(at_term(alloc, body, term)?)
-        }
+        (Head::All(ty), [body]) => said_of_value(alloc, scope, goal, ty.get(), body, tree),
         (Head::AllMemory, [body]) => {
             let memory = memory_of(alloc, scope, goal, tree)?;
             said_of_memory(alloc, goal, body, memory, tree.place)
@@ -184,8 +184,11 @@ fn about_value(
     ensures { IfOk result (λ made. made ≡ about_value variable ty.now form.now) }
 {
     let nearest = leaf(alloc, Head::Bound(0), ty.share()?)?;
-    let to_bound = Change::ToTerm(Read::Logical(variable), nearest);
-    let body = changed(alloc, form, &[to_bound])?;
+    let body = changed(
+        alloc,
+        form,
+        &[Change::ToTerm(Read::Logical(variable), nearest)],
+    )?;
     forall(alloc, ty.share()?, body)
 }
 
@@ -193,8 +196,11 @@ fn about_value(
 fn about_memory(alloc: Global, memory: u32, form: &Form) -> Result<Form, AllocError>
     ensures { IfOk result (λ made. made ≡ about_memory memory form.now) }
 {
-    let to_bound = Change::ToSide(Side::Memory(memory), Side::Bound(0));
-    let body = changed(alloc, form, &[to_bound])?;
+    let body = changed(
+        alloc,
+        form,
+        &[Change::ToSide(Side::Memory(memory), Side::Bound(0))],
+    )?;
     let ty = truth_ty(alloc)?;
     over(alloc, Head::AllMemory, body, ty)
 }

@@ -52,15 +52,15 @@ fn memory_witness(
     goal: &Sequent,
     memory: Side,
     place: Place,
-) -> Result<AmbientRule, Refused>
-    ensures { Answers (memory_witness goal.now memory place) result }
+) -> Result<Rule, Refused>
+    ensures { Answers (memory_witness goal.now memory place and_then λ r. given (Rule.Ambient r)) result }
 {
     match memory {
         Side::Memory(number) => {
             if asks_for_locals(alloc, goal, memory)? {
                 return Err(not_built(place));
             }
-            Ok(AmbientRule::WitnessMemory(number))
+            Ok(Rule::Ambient(AmbientRule::WitnessMemory(number)))
         }
         _ => Err(not_built(place)),
     }
@@ -77,8 +77,7 @@ pub fn witness_rule(
 {
     if is_memory(witness.head) {
         let memory = memory_of(alloc, scope, goal, witness)?;
-        let rule = memory_witness(alloc, goal, memory, witness.place)?;
-        return Ok(Rule::Ambient(rule));
+        return memory_witness(alloc, goal, memory, witness.place);
     }
     let wanted = asked_of(goal.conclusion.head.get());
     let witness = term(alloc, scope, goal, witness, wanted)?;

@@ -8,7 +8,7 @@ ghost use Rattle.gb_script.specs.Tree.{text_of};
 ghost use Rattle.gb_goal.specs.Binders.{binder_entries};
 ghost use Rattle.gb_goal.specs.Scope.{AreNew, entry_of};
 ghost use Rattle.gb_elab_prog.specs.Bound.{is_module};
-ghost use Rattle.gb_elab_prog.specs.Contexts.{all_bound, all_excluded, bound_by, context_of, excluded, memory_bound, module_bound, nothing_around, nothing_bound, taken, unbounded, untaken, values_bound};
+ghost use Rattle.gb_elab_prog.specs.Contexts.{all_bound, all_excluded, binder, bound_by, context_of, excluded, memory_bound, module_bound, nothing_around, nothing_bound, taken, unbounded, untaken, values_bound};
 ghost use Rattle.gb_elab_prog.specs.Fresh.{free};
 
 use crate::bound::is_module;
@@ -117,7 +117,8 @@ pub fn all_bound(alloc: Global, scope: &Scope, binders: &[Node]) -> Result<Bound
 {
     let mut bound = Bound::nothing(alloc);
     for x in binders {
-        bound = bind(alloc, scope, bound, x.head, x.parts.as_slice(), x.place)?;
+        let parts = x.parts.as_slice();
+        bind(alloc, scope, &mut bound, x.head, parts, x.place)?;
     }
     Ok(bound)
 }
@@ -130,35 +131,28 @@ pub fn context_of(alloc: Global, bound: Bound) -> Result<(Sequent, Binds), Alloc
     let Bound {
         values,
         memories,
-        modules: binds,
+        modules,
         ..
     } = bound;
-    let logical = SharedItems::new(alloc, values)?;
-    let memories = SharedItems::new(alloc, memories)?;
-    let modules = SharedItems::empty(alloc)?;
-    let hyps = SharedItems::empty(alloc)?;
-    let conclusion = make::boolean(alloc, true)?;
-    let around = Sequent {
-        logical,
-        memories,
-        modules,
-        hyps,
-        conclusion,
-    };
-    Ok((around, binds))
+    let mut around = nothing_around(alloc)?;
+    around.logical = SharedItems::new(alloc, values)?;
+    around.memories = SharedItems::new(alloc, memories)?;
+    Ok((around, modules))
 }
 
 /// Binds beside others what a binder of this head and these parts binds.
 fn bind(
     alloc: Global,
     scope: &Scope,
-    bound: Bound,
+    bound: &mut Bound,
     head: Head,
     parts: &[Node],
     place: Place,
-) -> Result<Bound, Refused>
-    ensures answer { Answers (bound_by scope.now bound head parts.now place) result }
-    ensures new { IfOk result (λ b. AreNew scope.now (binder_entries bound.modules) → AreNew scope.now (binder_entries b.modules)) }
+) -> Result<(), Refused>
+    ensures answer { MatchResult result
+        (λ _. bound_by scope.now bound.old head parts.now place ≡ given bound.new)
+        (λ e. Fails (bound_by scope.now bound.old head parts.now place) e) }
+    ensures new { OnOk result (AreNew scope.now (binder_entries bound.old.modules) → AreNew scope.now (binder_entries bound.new.modules)) }
 {
     match head {
         Head::Values => match parts {
@@ -273,60 +267,71 @@ fn refuse_named(alloc: Global, scope: &Scope, binds: &[Bind], name: &Node) -> Re
 fn bind_module(
     alloc: Global,
     scope: &Scope,
-    bound: Bound,
+    bound: &mut Bound,
     name: &Node,
     ty: &Node,
     excluded: &[Node],
     bounds: &[Node],
-) -> Result<Bound, Refused>
-    ensures answer { Answers (module_bound scope.now bound name.now ty.now excluded.now bounds.now) result }
-    ensures new { IfOk result (λ b. AreNew scope.now (binder_entries bound.modules) → AreNew scope.now (binder_entries b.modules)) }
+) -> Result<(), Refused>
+    ensures answer { MatchResult result
+        (λ _. module_bound scope.now bound.old name.now ty.now excluded.now bounds.now ≡ given bound.new)
+        (λ e. Fails (module_bound scope.now bound.old name.now ty.now excluded.now bounds.now) e) }
+    ensures new { OnOk result (AreNew scope.now (binder_entries bound.old.modules) → AreNew scope.now (binder_entries bound.new.modules)) }
 {
-    let mut bound = bound;
     take_name(alloc, &mut bound.names, name)?;
     refuse_named(alloc, scope, bound.modules.as_slice(), name)?;
     module_type_at(alloc, scope, ty)?;
     let minus = all_excluded(alloc, scope, bound.modules.as_slice(), excluded)?;
     refuse_bounds(bounds)?;
-    let ty = spelled(alloc, ty)?;
+    let made = binder(alloc, name, ty, minus)?;
+    bound.modules.push(made)?;
+    Ok(())
+}
+
+/// An abstract module of this name and of the module type that this path names, which excludes these modules.
+fn binder(alloc: Global, name: &Node, ty: &Node, minus: Names) -> Result<Bind, AllocError>
+    ensures { IfOk result (λ b. b ≡ binder name.now ty.now minus) }
+{
     let name = name.text.copy(alloc)?;
-    bound.modules.push(Bind {
+    let ty = spelled(alloc, ty)?;
+    Ok(Bind {
         name,
         ty,
         minus,
         bounds: Items::new(alloc),
-    })?;
-    Ok(bound)
+    })
 }
 
 fn bind_values(
     alloc: Global,
     scope: &Scope,
-    bound: Bound,
+    bound: &mut Bound,
     first: &Node,
     more: &[Node],
     ty: &Node,
-) -> Result<Bound, Refused>
-    ensures answer { Answers (values_bound scope.now bound first.now more.now ty.now) result }
-    ensures modules { IfOk result (λ b. b.modules ≡ bound.modules) }
+) -> Result<(), Refused>
+    ensures answer { MatchResult result
+        (λ _. values_bound scope.now bound.old first.now more.now ty.now ≡ given bound.new)
+        (λ e. Fails (values_bound scope.now bound.old first.now more.now ty.now) e) }
+    ensures modules { OnOk result (bound.new.modules ≡ bound.old.modules) }
 {
-    let mut bound = bound;
     take_name(alloc, &mut bound.names, first)?;
     take_names(alloc, &mut bound.names, more)?;
     let ty = type_of(alloc, scope, ty)?;
     bound.values.push(variable(alloc, &first.text, &ty)?)?;
     bound.values.append(of_type(alloc, more, &ty)?)?;
-    Ok(bound)
+    Ok(())
 }
 
-fn bind_memory(alloc: Global, bound: Bound, name: &Node) -> Result<Bound, Refused>
-    ensures answer { Answers (memory_bound bound name.now) result }
-    ensures modules { IfOk result (λ b. b.modules ≡ bound.modules) }
+fn bind_memory(alloc: Global, bound: &mut Bound, name: &Node) -> Result<(), Refused>
+    ensures answer { MatchResult result
+        (λ _. memory_bound bound.old name.now ≡ given bound.new)
+        (λ e. Fails (memory_bound bound.old name.now) e) }
+    ensures modules { OnOk result (bound.new.modules ≡ bound.old.modules) }
 {
-    let mut bound = bound;
     take_name(alloc, &mut bound.names, name)?;
     bound.memories.push(name.text.copy(alloc)?)?;
-    Ok(bound)
+    Ok(())
 }
 
 /// The empty context, with no claim.

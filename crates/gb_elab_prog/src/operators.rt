@@ -1,8 +1,9 @@
 // What commands `op` declare.
 
-ghost use Rattle.std.specs.Prelude.{◌≡◌, map, IfOk};
+ghost use Rattle.std.specs.Prelude.{◌≡◌, map, IfOk, MatchResult};
 ghost use Rattle.std.specs.Option.{option_copied};
-ghost use Rattle.gb_goal.specs.Answers.{Answers};
+ghost use Rattle.gb_goal.specs.Answers.{Answers, Fails};
+ghost use Rattle.gb_goal.specs.Answers.Answer.{given};
 ghost use Rattle.gb_names.specs.Types.{all_given, type_of};
 ghost use Rattle.gb_elab_prog.specs.Contexts.{nothing_bound};
 ghost use Rattle.gb_elab_prog.specs.Operators.{all_parameters, body, defined, of_one_type, operator_entry, parameters, undefined, written};
@@ -94,7 +95,8 @@ fn all_parameters(alloc: Global, scope: &Scope, groups: &[Node]) -> Result<Bound
 {
     let mut bound = Bound::nothing(alloc);
     for x in groups {
-        bound = parameters(alloc, scope, bound, x.head, x.parts.as_slice(), x.place)?;
+        let parts = x.parts.as_slice();
+        parameters(alloc, scope, &mut bound, x.head, parts, x.place)?;
     }
     Ok(bound)
 }
@@ -103,12 +105,14 @@ fn all_parameters(alloc: Global, scope: &Scope, groups: &[Node]) -> Result<Bound
 fn parameters(
     alloc: Global,
     scope: &Scope,
-    bound: Bound,
+    bound: &mut Bound,
     head: Head,
     parts: &[Node],
     place: Place,
-) -> Result<Bound, Refused>
-    ensures { Answers (parameters scope.now bound head parts.now place) result }
+) -> Result<(), Refused>
+    ensures { MatchResult result
+        (λ _. parameters scope.now bound.old head parts.now place ≡ given bound.new)
+        (λ e. Fails (parameters scope.now bound.old head parts.now place) e) }
 {
     match head {
         Head::Variables => match parts {
@@ -122,17 +126,18 @@ fn parameters(
 fn bind_all(
     alloc: Global,
     scope: &Scope,
-    bound: Bound,
+    bound: &mut Bound,
     words: &[Node],
     ty: &Node,
-) -> Result<Bound, Refused>
-    ensures { Answers (of_one_type scope.now bound words.now ty.now) result }
+) -> Result<(), Refused>
+    ensures { MatchResult result
+        (λ _. of_one_type scope.now bound.old words.now ty.now ≡ given bound.new)
+        (λ e. Fails (of_one_type scope.now bound.old words.now ty.now) e) }
 {
-    let mut bound = bound;
     take_names(alloc, &mut bound.names, words)?;
     let ty = type_or_number(alloc, scope, ty)?;
     bound.values.append(of_type(alloc, words, &ty)?)?;
-    Ok(bound)
+    Ok(())
 }
 
 /// The types of parameters.

@@ -5,7 +5,7 @@ ghost use Rattle.std.specs.Prelude.{◌≡◌, ◌≤◌, length, slice_range};
 use sqlite_items::Items;
 
 /// The kind of a token.
-#[derive(Clone, Copy, Debug, PartialEq, Eq)]
+#[derive(Clone, Copy)]
 pub enum Kind {
     /// A letter or `_`, then letters, digits, `_` and `'`.
     Word,
@@ -18,7 +18,7 @@ pub enum Kind {
 }
 
 /// A token of a text: the bytes from `from` on, up to but without `to`.
-#[derive(Clone, Copy, Debug, PartialEq, Eq)]
+#[derive(Clone, Copy)]
 pub struct Token {
     pub kind: Kind,
     pub from: u32,
@@ -38,7 +38,7 @@ pub fn text_of<'a>(text: &'a [u8], token: &Token) -> &'a [u8]
 }
 
 /// What a piece of a text is.
-#[derive(Clone, Copy, Debug, PartialEq, Eq)]
+#[derive(Clone, Copy)]
 pub enum What {
     /// A byte of white space, or a comment.
     Blank,
@@ -50,14 +50,14 @@ pub enum What {
 }
 
 /// A piece of a text, and how many bytes it has.
-#[derive(Clone, Copy, Debug, PartialEq, Eq)]
+#[derive(Clone, Copy)]
 pub struct Piece {
     pub what: What,
     pub size: usize,
 }
 
 /// What the next command of a text is.
-#[derive(Clone, Copy, Debug, PartialEq, Eq)]
+#[derive(Clone, Copy)]
 pub enum Cut {
     /// The command ends, with its final dot, before the offset `to`.
     Command { to: u32 },

@@ -12,18 +12,33 @@ use sqlite_items::Items;
 use std::alloc::{AllocError, Global};
 
 /// What a name is bound to.
-#[derive(Drop)]
 pub enum Kind {
     /// A value of this type.
     Value(Shared<Ty>),
     Memory,
 }
 
+impl Drop for Kind {
+    fn drop(self) {
+        match self {
+            Kind::Value(ty) => drop(ty),
+            Kind::Memory => {}
+        }
+    }
+}
+
 /// A name that a quantifier or a function binds. All that is bound shares one count, from the innermost one outwards.
-#[derive(Drop)]
 pub struct Binding {
     pub name: Name,
     pub kind: Kind,
+}
+
+impl Drop for Binding {
+    fn drop(self) {
+        let Binding { name, kind } = self;
+        drop(name);
+        drop(kind);
+    }
 }
 
 pub type Bindings = Items<Binding>;

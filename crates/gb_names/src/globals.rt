@@ -58,8 +58,13 @@ fn module_if<'a>(inside: Option<&'a Module>, scope: &'a Scope, name: &Name) -> O
 fn global_in<'a>(owner: Name, module: Option<&'a Module>, name: &Name) -> Option<ModuleVariable<'a>>
     ensures { option_map (λ g. (g.owner, g.variable.now)) result ≡ global_in owner (option_copied «module».entry) name.now }
 {
-    let variable = first_named(module?.globals.as_slice(), name)?;
-    Some(ModuleVariable { owner, variable })
+    match module {
+        Some(module) => match first_named(module.globals.as_slice(), name) {
+            Some(variable) => Some(ModuleVariable { owner, variable }),
+            None => None,
+        },
+        None => None,
+    }
 }
 
 /// A global of the module around, by its own name.

@@ -1,6 +1,6 @@
 //! Module expressions: the modules that they are, and what is known of these.
 
-ghost use Rattle.std.specs.Prelude.{◌≡◌, [], ◌∷◌, IfOk, MatchResult};
+ghost use Rattle.std.specs.Prelude.{◌≡◌, ◌∷◌, IfOk, MatchResult};
 ghost use Rattle.std.specs.Option.{option_copied};
 ghost use Rattle.gb_script.specs.Tree.{head_of, place_of};
 ghost use Rattle.gb_goal.specs.Answers.{Answers, Fails, Gives};
@@ -8,7 +8,7 @@ ghost use Rattle.gb_goal.specs.Answers.Answer.{given as of_answer};
 ghost use Rattle.gb_goal.specs.Seen.{seen};
 ghost use Rattle.gb_mods.specs.Meets.{known_seen};
 ghost use Rattle.gb_names.specs.Environment.{environment};
-ghost use Rattle.gb_names.specs.Modules.{all_given, applied, bracketed, complete, expression, fitting, given_seen, known_module, module_at, named_module, names, next_given, whole_module, with_given, with_modules, with_readings};
+ghost use Rattle.gb_names.specs.Modules.{all_given, applied, bracketed, complete, expression, fitting, given_seen, module_at, named_module, names, next_given, whole_module, with_given, with_modules, with_readings};
 
 use crate::bindings::Binding;
 use crate::ended::check_ended;
@@ -29,28 +29,9 @@ use gb_terms::module::{Mexp, Mexps};
 use sqlite_items::Items;
 use std::alloc::{AllocError, Global};
 
-/// What is known of the module of this name, where nothing nearer has it.
-#[tactic(auto, unfolding(crate::specs::Modules::known_module))]
-fn known_module<'a>(
-    alloc: Global,
-    at: &Setting<'a>,
-    bound: &[Binding],
-    name: &Name,
-    place: Place,
-) -> Result<Interface<'a>, Refused>
-    ensures { Gives seen (known_module (environment at.now) bound.now name.now place) result }
-{
-    if hidden(at, bound, name) {
-        return Err(argument(place));
-    }
-    match interface_of(at.scope, at.inside, name) {
-        Some(found) => Ok(found),
-        None => Err(no_declared(alloc, at.inside, at.scope, name, place)),
-    }
-}
-
-/// The same, where the module's loops are proved to end, and those of all that it names, unless a program names it.
-#[tactic(auto, unfolding(crate::specs::Modules::named_module))]
+/// What is known of the module of this name, where nothing nearer has it. Its loops are proved to end, and those of all that it names,
+/// unless a program names it.
+#[tactic(auto, unfolding(crate::specs::Modules::named_module, crate::specs::Modules::known_module))]
 fn named_module<'a>(
     alloc: Global,
     at: &Setting<'a>,
@@ -60,9 +41,16 @@ fn named_module<'a>(
 ) -> Result<Interface<'a>, Refused>
     ensures { Gives seen (named_module (environment at.now) bound.now name.now place) result }
 {
-    let found = known_module(alloc, at, bound, name, place)?;
-    check_ended(alloc, at, name, place)?;
-    Ok(found)
+    if hidden(at, bound, name) {
+        return Err(argument(place));
+    }
+    match interface_of(at.scope, at.inside, name) {
+        Some(found) => {
+            check_ended(alloc, at, name, place)?;
+            Ok(found)
+        }
+        None => Err(no_declared(alloc, at.inside, at.scope, name, place)),
+    }
 }
 
 /// Modules that are given for parameters, and the parameters that are left.
@@ -126,25 +114,6 @@ fn with_given<'a>(
         procedures: interface.procedures,
     };
     Ok(Known { module, interface })
-}
-
-/// The module of this name without arguments.
-#[tactic(auto, unfolding(crate::specs::Modules::applied, crate::specs::Modules::all_given))]
-fn bare<'a>(
-    alloc: Global,
-    at: &Setting<'a>,
-    bound: &[Binding],
-    name: &Name,
-    place: Place,
-) -> Result<Known<'a>, Refused>
-    ensures { Gives known_seen (applied name.now place [] (environment at.now) bound.now) result }
-{
-    let interface = named_module(alloc, at, bound, name, place)?;
-    let given = Given {
-        modules: Items::new(alloc),
-        left: interface.lacks,
-    };
-    with_given(alloc, name, interface, given).map_err(Refused::from)
 }
 
 /// The module of this name with these arguments.
@@ -272,10 +241,10 @@ fn expression<'a>(
     ensures { Gives known_seen (expression head text.now (with_readings parts.now) place (environment at.now) bound.now) result }
 {
     match head {
-        Head::Name => bare(alloc, at, bound, text, place),
+        Head::Name => applied(alloc, at, bound, text, place, &[]),
         Head::Path => {
             let name = path(alloc, parts)?;
-            bare(alloc, at, bound, &name, place)
+            applied(alloc, at, bound, &name, place, &[])
         }
         Head::ModuleExpression => match parts {
             [first, arguments @ ..] => {

@@ -14,7 +14,6 @@ use std::marker::Model;
 /// What the names of a form mean: the declarations of the script, the module around it as far as it is typed, the context of the
 /// sequent around it (an empty one where there is none), the program variables and the named memories that it may read, and which
 /// language it is written in.
-#[derive(Drop)]
 pub struct Setting<'a> {
     pub scope: &'a Scope,
     pub inside: Option<&'a Module>,
@@ -22,6 +21,20 @@ pub struct Setting<'a> {
     pub variables: Variables<'a>,
     pub memories: Memories<'a>,
     pub language: Language,
+}
+
+impl<'a> Drop for Setting<'a> {
+    fn drop(self) {
+        let Setting {
+            scope: _,
+            inside: _,
+            sequent: _,
+            variables,
+            memories: _,
+            language: _,
+        } = self;
+        drop(variables);
+    }
 }
 
 /// Of the named memories, those of the context and those that are bound in a form, the ones that it may read.
@@ -70,7 +83,6 @@ impl<'a> Memories<'a> {
 }
 
 /// The program variables that are not globals and that a form may read, with their types.
-#[derive(Drop)]
 pub enum Variables<'a> {
     /// None, as in an ambient form.
     Absent,
@@ -83,10 +95,28 @@ pub enum Variables<'a> {
     },
 }
 
+impl<'a> Drop for Variables<'a> {
+    fn drop(self) {
+        match self {
+            Variables::Absent => {}
+            Variables::Own(own) => drop(own),
+            Variables::Sides { left, right } => {
+                drop(left);
+                drop(right);
+            }
+        }
+    }
+}
+
 /// A list that is held elsewhere. Contracts see its elements.
-#[derive(Drop)]
 pub struct Borrowed<'a, T> {
     list: &'a [T],
+}
+
+impl<'a, T> Drop for Borrowed<'a, T> {
+    fn drop(self) {
+        let Borrowed { list: _ } = self;
+    }
 }
 
 impl<'a, T> Model for Borrowed<'a, T> {
@@ -116,7 +146,7 @@ impl<'a, T> Borrowed<'a, T> {
 
 /// Program expressions have no quantifier, judgment or side, and a distribution only where one is sampled. A function of a
 /// proof step is put in where the memories of a judgment are bound, so it has no judgment of its own.
-#[derive(Clone, Copy, PartialEq, Eq)]
+#[derive(Clone, Copy)]
 pub enum Language {
     Formula,
     Function,

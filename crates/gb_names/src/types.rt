@@ -81,6 +81,15 @@ fn int_type(parts: &[Node], place: Place) -> Result<Ty, Refused>
     }
 }
 
+/// The type that a type of a script spells, for several owners.
+#[cycle(types)]
+fn shared(alloc: Global, scope: &Scope, t: &Node, place: Place) -> Result<Shared<Ty>, Refused>
+    ensures { Answers (spelled t.now scope.now place) result }
+{
+    let ty = spelled(alloc, scope, t, place)?;
+    Shared::new(alloc, ty).map_err(Refused::from)
+}
+
 /// A type in brackets.
 #[cycle(types)]
 fn bracketed_type(alloc: Global, scope: &Scope, parts: &[Node], place: Place) -> Result<Ty, Refused>
@@ -98,10 +107,7 @@ fn option_type(alloc: Global, scope: &Scope, parts: &[Node], place: Place) -> Re
     ensures { Answers (option_type (with_spellings parts.now) scope.now place) result }
 {
     match parts {
-        [inner] => {
-            let inner = spelled(alloc, scope, inner, place)?;
-            Ok(Ty::Opt(Shared::new(alloc, inner)?))
-        }
+        [inner] => Ok(Ty::Opt(shared(alloc, scope, inner, place)?)),
         _ => Err(not_built(place)),
     }
 }
@@ -113,9 +119,9 @@ fn map_type(alloc: Global, scope: &Scope, parts: &[Node], place: Place) -> Resul
 {
     match parts {
         [key, value] => {
-            let key = spelled(alloc, scope, key, place)?;
-            let value = spelled(alloc, scope, value, place)?;
-            Ok(Ty::Map(Shared::new(alloc, key)?, Shared::new(alloc, value)?))
+            let key = shared(alloc, scope, key, place)?;
+            let value = shared(alloc, scope, value, place)?;
+            Ok(Ty::Map(key, value))
         }
         _ => Err(not_built(place)),
     }
@@ -215,7 +221,7 @@ fn path_type(alloc: Global, scope: &Scope, words: &[Node], own: Place) -> Result
 pub fn type_of(alloc: Global, scope: &Scope, t: &Node) -> Result<Shared<Ty>, Refused>
     ensures { Answers (type_of scope.now t.now) result }
 {
-    Shared::new(alloc, spelled(alloc, scope, t, t.place)?).map_err(Refused::from)
+    shared(alloc, scope, t, t.place)
 }
 
 /// Where a type is `int` or `real` itself, that one. Brackets may stand round it.

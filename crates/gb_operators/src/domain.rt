@@ -15,12 +15,20 @@ use gb_script::tree::Node;
 use std::alloc::{AllocError, Global};
 
 /// The type of a function's variable.
-#[derive(Drop)]
 pub enum Domain {
     /// This one.
     Exactly(Shared<Ty>),
     /// An `int[n]` that has the numbers below this one.
     Below(u32),
+}
+
+impl Drop for Domain {
+    fn drop(self) {
+        match self {
+            Domain::Exactly(ty) => drop(ty),
+            Domain::Below(_) => {}
+        }
+    }
 }
 
 /// The type of a variable to which the text gives none.

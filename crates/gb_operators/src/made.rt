@@ -1,9 +1,12 @@
 // What is made of typed parts.
 
-ghost use Rattle.std.specs.Prelude.{◌≡◌, IfOk, map};
-ghost use Rattle.gb_terms.specs.Make.{applied};
-ghost use Rattle.gb_goal.specs.Answers.{Answers};
+ghost use Rattle.std.specs.Prelude.{◌≡◌, [], ◌∷◌, IfOk, map};
+ghost use Rattle.gb_core.specs.declared.refusal.Why.TheVariants.{TypeMismatch};
+ghost use Rattle.gb_terms.specs.Make.{applied, node};
+ghost use Rattle.gb_goal.specs.Answers.{Answers, given_or, ◌>>=◌ as ◌and_then◌};
+ghost use Rattle.gb_goal.specs.Answers.Answer.{given};
 ghost use Rattle.gb_names.specs.Wanted.{type_of_term};
+ghost use Rattle.gb_operators.specs.Kinds.{entries};
 ghost use Rattle.gb_operators.specs.Rules.{annotated_made, branches_made, drawn_made, get_made, in_order, made, mass_made, member, member_made, part_made, part_type, prefix_made, product_made, product_type, quotient_made, set_made, sides_made, sum_made, tuple_made, user_made};
 
 use crate::asked::values;
@@ -27,11 +30,18 @@ use gb_terms::term::{Head, Term, Terms};
 use sqlite_items::Items;
 use std::alloc::{AllocError, Global};
 
-/// An operator at its arguments.
-fn applied(alloc: Global, op: Op, args: Terms, ty: Shared<Ty>) -> Result<Term, AllocError>
-    ensures { IfOk result (λ made. made ≡ applied op args ty) }
+/// The term of this head, these arguments and this type.
+fn headed(alloc: Global, head: Head, args: Terms, ty: Shared<Ty>) -> Result<Term, Refused>
+    ensures { Answers (given (node head args ty)) result }
 {
-    make::term(alloc, Head::Builtin(op), args, ty)
+    make::term(alloc, head, args, ty).map_err(Refused::from)
+}
+
+/// An operator at its arguments.
+fn applied(alloc: Global, op: Op, args: Terms, ty: Shared<Ty>) -> Result<Term, Refused>
+    ensures { Answers (given (applied op args ty)) result }
+{
+    headed(alloc, Head::Builtin(op), args, ty)
 }
 
 /// A form itself.
@@ -50,9 +60,18 @@ fn types_of(alloc: Global, terms: &[Term]) -> Result<Tys, AllocError>
 {
     let mut all = Items::new(alloc);
     for t in terms {
-        all.push(copy_ty(alloc, t.ty.get())?)?;
+        let ty = copy_ty(alloc, t.ty.get())?;
+        all.push(ty)?;
     }
     Ok(all)
+}
+
+/// The type of the tuple of these parts.
+fn tuple_type(alloc: Global, parts: &[Term]) -> Result<Shared<Ty>, AllocError>
+    ensures { IfOk result (λ made. made ≡ Ty.Tuple (map type_of_term parts.now)) }
+{
+    let types = SharedItems::new(alloc, types_of(alloc, parts)?)?;
+    Shared::new(alloc, Ty::Tuple(types))
 }
 
 /// The tuple of its parts.
@@ -60,9 +79,8 @@ fn tuple_made(alloc: Global, place: Place, typed: Terms) -> Result<Term, Refused
     ensures { Answers (tuple_made place typed) result }
 {
     values(typed.as_slice(), place)?;
-    let types = SharedItems::new(alloc, types_of(alloc, typed.as_slice())?)?;
-    let ty = Shared::new(alloc, Ty::Tuple(types))?;
-    applied(alloc, Op::Tuple, typed, ty).map_err(Refused::from)
+    let ty = tuple_type(alloc, typed.as_slice())?;
+    applied(alloc, Op::Tuple, typed, ty)
 }
 
 /// The type of a part of a tuple, by its number.
@@ -98,7 +116,7 @@ fn part_made(
         [tuple] => part_type(alloc, tuple.ty.get(), number, digits, place)?,
         _ => return Err(not_built(place)),
     };
-    applied(alloc, Op::Part(number), typed, ty).map_err(Refused::from)
+    applied(alloc, Op::Part(number), typed, ty)
 }
 
 /// A test and two branches.
@@ -109,24 +127,31 @@ fn branches_made(alloc: Global, place: Place, typed: Terms) -> Result<Term, Refu
         [_, first, _] => first.ty.share()?,
         _ => return Err(not_built(place)),
     };
-    applied(alloc, Op::If, typed, ty).map_err(Refused::from)
+    applied(alloc, Op::If, typed, ty)
+}
+
+/// The type of what a map of this type has at a key.
+fn value_type(alloc: Global, map: &Ty, place: Place) -> Result<Shared<Ty>, Refused>
+    ensures { Answers (given_or (entries map.now) TypeMismatch place and_then λ e. given (Ty.Opt e.1)) result }
+{
+    match entries(map) {
+        Some((_, value)) => {
+            let value = value.share()?;
+            Shared::new(alloc, Ty::Opt(value)).map_err(Refused::from)
+        }
+        None => Err(mismatch(place)),
+    }
 }
 
 /// What a map has at a key.
 fn get_made(alloc: Global, place: Place, typed: Terms) -> Result<Term, Refused>
     ensures { Answers (get_made place typed) result }
 {
-    match typed.as_slice() {
-        [map, _] => match entries(map.ty.get()) {
-            Some((_, value)) => {
-                let value = value.share()?;
-                let ty = Shared::new(alloc, Ty::Opt(value))?;
-                applied(alloc, Op::Get, typed, ty).map_err(Refused::from)
-            }
-            None => Err(mismatch(place)),
-        },
-        _ => Err(not_built(place)),
-    }
+    let ty = match typed.as_slice() {
+        [map, _] => value_type(alloc, map.ty.get(), place)?,
+        _ => return Err(not_built(place)),
+    };
+    applied(alloc, Op::Get, typed, ty)
 }
 
 /// A map with another value at a key.
@@ -137,7 +162,7 @@ fn set_made(alloc: Global, place: Place, typed: Terms) -> Result<Term, Refused>
         [map, _, _] => map.ty.share()?,
         _ => return Err(not_built(place)),
     };
-    applied(alloc, Op::Set, typed, ty).map_err(Refused::from)
+    applied(alloc, Op::Set, typed, ty)
 }
 
 /// An operator of one operand.
@@ -149,7 +174,7 @@ fn prefix_made(alloc: Global, prefix: Prefix, place: Place, typed: Terms) -> Res
         _ => return Err(not_built(place)),
     };
     match ty {
-        Some(ty) => { applied(alloc, prefix_operator(prefix), typed, ty).map_err(Refused::from) }
+        Some(ty) => applied(alloc, prefix_operator(prefix), typed, ty),
         None => Err(mismatch(place)),
     }
 }
@@ -212,8 +237,8 @@ fn quotient_made(
 }
 
 /// Whether a map has a key, or a distribution an outcome.
-fn member(alloc: Global, element: &Term, of: &Term) -> Result<Term, AllocError>
-    ensures { IfOk result (λ made. made ≡ member element.now of.now) }
+fn member(alloc: Global, element: &Term, of: &Term) -> Result<Term, Refused>
+    ensures { Answers (given (member element.now of.now)) result }
 {
     let op = if is_distribution(of.ty.get()) {
         Op::InSupport
@@ -221,7 +246,7 @@ fn member(alloc: Global, element: &Term, of: &Term) -> Result<Term, AllocError>
         Op::InMap
     };
     let ty = make::truth_ty(alloc)?;
-    in_order(alloc, op, false, element, of, ty)
+    in_order(alloc, op, false, element, of, ty).map_err(Refused::from)
 }
 
 /// `\in`, with whether its right side was typed first.
@@ -236,12 +261,10 @@ fn member_made(
     match typed {
         [first, second] => {
             if backwards {
-                return member(alloc, second, first).map_err(Refused::from);
+                return member(alloc, second, first);
             }
             match element(second.ty.get()) {
-                Some(ty) if same_types(ty.get(), first.ty.get()) => {
-                    member(alloc, first, second).map_err(Refused::from)
-                }
+                Some(ty) if same_types(ty.get(), first.ty.get()) => member(alloc, first, second),
                 _ => Err(mismatch(place)),
             }
         }
@@ -258,7 +281,7 @@ fn drawn_made(alloc: Global, drawn: Drawn, place: Place, typed: Terms) -> Result
         _ => return Err(not_built(place)),
     };
     match ty {
-        Some(ty) => make::term(alloc, drawn_head(drawn), typed, ty).map_err(Refused::from),
+        Some(ty) => headed(alloc, drawn_head(drawn), typed, ty),
         None => Err(mismatch(place)),
     }
 }
@@ -278,22 +301,29 @@ pub fn user_made(
     }
     let name = name.copy(alloc)?;
     let ty = operator.result.share()?;
-    make::term(alloc, Head::User(name), typed, ty).map_err(Refused::from)
+    headed(alloc, Head::User(name), typed, ty)
+}
+
+/// The type of pairs.
+fn pair_type(alloc: Global, first: &Ty, second: &Ty) -> Result<Shared<Ty>, AllocError>
+    ensures { IfOk result (λ made. made ≡ Ty.Tuple (first.now ∷ second.now ∷ [])) }
+{
+    let first = copy_ty(alloc, first)?;
+    let second = copy_ty(alloc, second)?;
+    let types = SharedItems::new(alloc, Items::from_vec(vec![in alloc; first, second]?))?;
+    Shared::new(alloc, Ty::Tuple(types))
 }
 
 /// The type of a product of distributions of these types, which has at most 65,536 outcomes.
-fn product_type(alloc: Global, left: &Ty, right: &Ty, place: Place) -> Result<Ty, Refused>
+fn product_type(alloc: Global, left: &Ty, right: &Ty, place: Place) -> Result<Shared<Ty>, Refused>
     ensures { Answers (product_type left.now right.now place) result }
 {
     let (Some(first), Some(second)) = (outcome(left), outcome(right)) else {
         return Err(mismatch(place));
     };
-    let mut types = Items::new(alloc);
-    types.push(copy_ty(alloc, first.get())?)?;
-    types.push(copy_ty(alloc, second.get())?)?;
-    let pair = Ty::Tuple(SharedItems::new(alloc, types)?);
-    if is_small(&pair) {
-        Ok(Ty::Distr(Shared::new(alloc, pair)?))
+    let pair = pair_type(alloc, first.get(), second.get())?;
+    if is_small(pair.get()) {
+        Shared::new(alloc, Ty::Distr(pair)).map_err(Refused::from)
     } else {
         Err(too_large(place))
     }
@@ -307,8 +337,7 @@ fn product_made(alloc: Global, place: Place, typed: Terms) -> Result<Term, Refus
         [left, right] => product_type(alloc, left.ty.get(), right.ty.get(), place)?,
         _ => return Err(not_built(place)),
     };
-    let ty = Shared::new(alloc, ty)?;
-    applied(alloc, Op::Product, typed, ty).map_err(Refused::from)
+    applied(alloc, Op::Product, typed, ty)
 }
 
 /// The weight of a value in a distribution.
@@ -320,7 +349,7 @@ fn mass_made(alloc: Global, place: Place, typed: Terms) -> Result<Term, Refused>
         _ => return Err(not_built(place)),
     }
     let ty = Shared::new(alloc, Ty::Real)?;
-    applied(alloc, Op::Mu1, typed, ty).map_err(Refused::from)
+    applied(alloc, Op::Mu1, typed, ty)
 }
 
 /// A sum over the numbers below one.
@@ -332,7 +361,7 @@ fn sum_made(alloc: Global, below: u32, place: Place, typed: Terms) -> Result<Ter
         _ => return Err(not_built(place)),
     }
     let ty = Shared::new(alloc, Ty::Real)?;
-    make::term(alloc, Head::Sum(u128::from(below)), typed, ty).map_err(Refused::from)
+    headed(alloc, Head::Sum(u128::from(below)), typed, ty)
 }
 
 /// What is made of the typed parts.

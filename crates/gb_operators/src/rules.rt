@@ -16,7 +16,6 @@ use gb_names::names::Known;
 use gb_script::tree::Node;
 
 /// How a form is made of typed parts.
-#[derive(Drop)]
 pub enum Rule {
     /// The form itself, of a type that the text gives.
     Annotated(Shared<Ty>),
@@ -50,8 +49,28 @@ pub enum Rule {
     Sum(u32),
 }
 
+impl Drop for Rule {
+    fn drop(self) {
+        match self {
+            Rule::Annotated(ty) => drop(ty),
+            Rule::Tuple(_) => {}
+            Rule::Part(_, _) => {}
+            Rule::If | Rule::Get | Rule::Set | Rule::Product | Rule::Mass => {}
+            Rule::One(_) => {}
+            Rule::Two(_) => {}
+            Rule::Quotient(_, _) => {}
+            Rule::Member(_) => {}
+            Rule::User(name, operator) => {
+                drop(name);
+                drop(operator);
+            }
+            Rule::Drawn(_) => {}
+            Rule::Sum(_) => {}
+        }
+    }
+}
+
 /// What is asked of a part, with the type that is wanted of it, if one is.
-#[derive(Drop)]
 pub enum Asked {
     Form(Option<Shared<Ty>>),
     /// A form that may stand for the whole one.
@@ -60,6 +79,20 @@ pub enum Asked {
     Source(Option<Shared<Ty>>),
     /// A function of one variable, with the type that is wanted of its value.
     Function(Domain, Option<Shared<Ty>>),
+}
+
+impl Drop for Asked {
+    fn drop(self) {
+        match self {
+            Asked::Form(want) => drop(want),
+            Asked::Branch(want) => drop(want),
+            Asked::Source(want) => drop(want),
+            Asked::Function(domain, want) => {
+                drop(domain);
+                drop(want);
+            }
+        }
+    }
 }
 
 /// An operator with its sides exchanged, or not.

@@ -7,7 +7,7 @@ ghost use Rattle.gb_outside.specs.Counts.{HasRisen};
 ghost use Rattle.gb_outside.specs.HeldBytes.{bytes_of, ReadsHeld};
 
 /// A call of the outside that failed. Nothing was read or written by it.
-#[derive(Clone, Copy, Debug, PartialEq, Eq)]
+#[derive(Clone, Copy)]
 pub struct Failed;
 
 /// Files that are read by name.

@@ -16,7 +16,7 @@ pub const LENGTH_LIMIT: usize = 1_048_577;
 pub const PIECE: usize = 4096;
 
 /// Why a file wasn't read whole.
-#[derive(Clone, Copy, Debug, PartialEq, Eq)]
+#[derive(Clone, Copy)]
 pub enum ReadRefused {
     /// Memory for the bytes ran out.
     NoMemory,

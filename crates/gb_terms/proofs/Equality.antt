@@ -1,6 +1,6 @@
 -- The tests of equality decide it.
 use Rattle.std.proofs.Common.{◌≡◌, ℕ, ◌==◌, Bool, true, bytes_eq, List, refl, subst, ◌↔◌, IsTrue, Decides}
-use Rattle.std.proofs.lemmas.Bool.{and_from, and_parts}
+use Rattle.std.proofs.lemmas.Bool.{and_from, and_parts, false≢true}
 use Rattle.std.proofs.lemmas.Bool.Decides.{Decides-eqb, same_from_decides}
 use Rattle.std.proofs.lemmas.Slice.Eq.{bytes_eq-Decides}
 use Rattle.gb_core.specs.declared.var.Var.{Var}
@@ -30,7 +30,7 @@ var_is (Global m x) (Global n y) e =
     let p = and_parts _ _ e in λ i. Global (same_bytes m n p.0 i) (same_bytes x y p.1 i)
 var_is (Local x) (Local y) e = λ i. Local (same_bytes x y e i)
 var_is (Glob m) (Glob n) e = λ i. Glob (same_bytes m n e i)
-var_is _ _ e = cc
+var_is _ _ e = absurd (false≢true e)
 
 pub var_eq-Decides : (v w : Var) → Decides (var_eq v w) (v ≡ w)
 var_eq-Decides v w = (var_is v w, λ e. subst (λ z. var_eq v z ≡ true) e (var_same v))
@@ -46,7 +46,7 @@ side_is Left Left e = refl
 side_is Right Right e = refl
 side_is (Memory m) (Memory n) e = λ i. Memory ((Decides-eqb m n).0 e i)
 side_is (Bound m) (Bound n) e = λ i. Bound ((Decides-eqb m n).0 e i)
-side_is _ _ e = cc
+side_is _ _ e = absurd (false≢true e)
 
 pub side_eq-Decides : (s t : Side) → Decides (side_eq s t) (s ≡ t)
 side_eq-Decides s t = (side_is s t, λ e. subst (λ z. side_eq s z ≡ true) e (side_same s))
@@ -59,7 +59,7 @@ read_is : (r q : Read) → read_eq r q ≡ true → r ≡ q
 read_is (Logical m) (Logical n) e = λ i. Logical ((Decides-eqb m n).0 e i)
 read_is (Program v s) (Program w t) e =
     let p = and_parts _ _ e in λ i. Program (var_is v w p.0 i) (side_is s t p.1 i)
-read_is _ _ e = cc
+read_is _ _ e = absurd (false≢true e)
 
 pub read_eq-Decides : (r q : Read) → Decides (read_eq r q) (r ≡ q)
 read_eq-Decides r q = (read_is r q, λ e. subst (λ z. read_eq r z ≡ true) e (read_same r))

@@ -1,6 +1,6 @@
 -- The test of module expressions decides their equality.
 use Rattle.std.proofs.Common.{◌≡◌, ℕ, Bool, true, bytes_eq, List, [], ◌∷◌, map, refl, sym, ap, subst, ◌∙◌, ◌↔◌, IsTrue, Decides}
-use Rattle.std.proofs.lemmas.Bool.{and_from, and_parts}
+use Rattle.std.proofs.lemmas.Bool.{and_from, and_parts, false≢true}
 use Rattle.std.proofs.lemmas.Bool.Decides.{same_from_decides}
 use Rattle.std.proofs.lemmas.Slice.Eq.{bytes_eq-Decides}
 use Rattle.gb_terms.specs.declared.module.Mexp.{Mexp, roll-Mexp, out-Mexp}
@@ -33,12 +33,12 @@ is_mexps = map-Mexp ((m : Mexp) × Is m) Mexp (λ e. e.0)
 is_all : (ms : List ((m : Mexp) × Is m)) (es : List Mexp) → all_same (map mexp_eq (map (λ e. e.0) ms)) es ≡ true → map (λ e. e.0) ms ≡ es
 is_all [] [] k = refl
 is_all (m ∷ ms) (e ∷ es) k = let p = and_parts _ _ k in λ i. m.1 e p.0 i ∷ is_all ms es p.1 i
-is_all _ _ k = cc
+is_all _ _ k = absurd (false≢true k)
 
 is_layer : (y : IsLayer) (z : Layer) → same_layer (tests (is_mexps y)) z ≡ true → is_mexps y ≡ z
 is_layer (layer.Name m) (layer.Name n) k = ap layer.Name ((bytes_eq-Decides m n).0 k)
 is_layer (layer.Apply m ms) (layer.Apply n es) k = let p = and_parts _ _ k in λ i. layer.Apply ((bytes_eq-Decides m n).0 p.0 i) (is_all ms es p.1 i)
-is_layer _ _ k = cc
+is_layer _ _ k = absurd (false≢true k)
 
 is_rolled : (y : IsLayer) → Is (roll-Mexp (is_mexps y))
 is_rolled y e k = ap roll-Mexp (is_layer y (out-Mexp e) (sym (test_at (is_mexps y) e) ∙ k)) ∙ roll-out-Mexp e

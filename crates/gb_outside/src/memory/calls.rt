@@ -8,7 +8,7 @@ use sqlite_items::Items;
 pub type Numbers = Items<u64>;
 
 /// The calls of an object in memory. Both counts stay at their last value.
-#[derive(Debug, Drop)]
+#[derive(Drop)]
 pub struct Calls {
     /// How many calls there were.
     pub made: u64,

@@ -8,7 +8,7 @@ use sqlite_items::Items;
 use std::marker::Model;
 
 /// A name with the bytes of its file.
-#[derive(Debug, Drop)]
+#[derive(Drop)]
 pub struct HeldFile {
     name: String,
     bytes: Vec<u8>,
@@ -58,7 +58,7 @@ fn find_bytes<'a>(files: &'a [HeldFile], name: &str) -> Option<&'a [u8]>
 }
 
 /// Files in memory, which fail at the calls that they are told to.
-#[derive(Debug, Drop)]
+#[derive(Drop)]
 pub struct MemFiles {
     pub files: HeldFiles,
     pub calls: Calls,

@@ -9,7 +9,7 @@ use std::marker::Model;
 
 /// A sink in memory, whose room is made once: no write takes memory. It fails where a piece finds no
 /// room, and at the calls that it is told to.
-#[derive(Debug, Drop)]
+#[derive(Drop)]
 pub struct MemSink {
     bytes: Vec<u8>,
     room: usize,

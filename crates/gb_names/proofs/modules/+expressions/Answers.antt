@@ -22,12 +22,12 @@ expression-returns-in_ok-name-in-len1-up t c =
     let bound = c.args.bound.now in
     let ts = c.args.parts.now in
     let m = c.first-item.result in
-    gives_as known_seen _ _ c.applied.result
+    gives_as known_seen _ _ c.applied-in-len1-up.result
     (ap (λ h. expression h c.args.text.now (with_readings ts) c.args.place at bound) c.in-ModuleExpression.is
     ∙ expression_is c.args.text.now c.args.place at bound ts m c.in-len1-up.len_at_least c.first-item.is
     ∙ ap (λ us. applied (spelled_by m) (place_of m) (with_modules us) at bound) (sym (rest_is ts))
     ∙ ap (λ x. applied x (place_of m) (with_modules (rest ts)) at bound) (sym c.in_ok-name-in-len1-up.ensures))
-    c.applied.ensures
+    c.applied-in-len1-up.ensures
 
 pub expression-returns-in_ok-name-in-len2 : goal.expression-returns-in_ok-name-in-len2
 expression-returns-in_ok-name-in-len2 t c =
