@@ -21,8 +21,8 @@ use Rattle.gb_goal.specs.Goal.Goal.{hoare, phoare, equiv, ambient}
 use Rattle.gb_goal.specs.Interfaces.{ProcedureType, procedure_type}
 use Rattle.gb_goal.specs.Rows.{refusing}
 use Rattle.gb_goal.specs.Scope.{Declarations}
-use Rattle.gb_holds.specs.Declared.{declared}
-use Rattle.gb_holds.specs.Holds.{LoopsAreGood}
+use Rattle.gb_meaning.specs.Declared.{declared}
+use Rattle.gb_meaning.specs.Holds.{LoopsAreGood}
 use Rattle.gb_mods.specs.Exclusions.{exclusions}
 use Rattle.gb_mods.specs.Written.{written}
 use Rattle.gb_steps.specs.declared.step.AbstractRule.{AbstractRule}

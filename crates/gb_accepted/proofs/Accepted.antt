@@ -3,13 +3,13 @@ use Rattle.std.proofs.Common.{ℕ, List, [], ◌∷◌, subst}
 use Rattle.std.specs.List.{AllByRecursion}
 use Rattle.gb_goal.specs.Answers.Answer.{given}
 use Rattle.gb_goal.specs.Scope.{Declarations}
-use Rattle.gb_holds.specs.Declared.{declared}
-use Rattle.gb_holds.specs.Holds.{Holds, IsSound}
+use Rattle.gb_meaning.specs.Declared.{declared}
+use Rattle.gb_meaning.specs.Holds.{Holds, IsSound}
 use Rattle.gb_typing.specs.Sequents.{IsTypedSequent}
 use Rattle.gb_typing.specs.Scopes.{context_of}
 use Rattle.gb_typing.specs.Naming.{NoName}
-use Rattle.gb_models.specs.Speaking.{IsFirmScope, ScopeSpeaks}
-use Rattle.gb_mods_laws.specs.Members.{CallsAreDeclared}
+use Rattle.gb_elab_laws.specs.Speaking.{IsFirmScope, ScopeSpeaks}
+use Rattle.gb_elab_laws.specs.Members.{CallsAreDeclared}
 use Rattle.gb_theory.specs.Built.{Session}
 use Rattle.gb_theory.specs.Outcome.{IsOutcome}
 use Rattle.gb_accepted.specs.Holding.{Lemma, IsProved, IsPromise, lemmas_in, IsPromised}

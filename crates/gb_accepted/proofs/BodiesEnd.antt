@@ -27,7 +27,7 @@ use Rattle.gb_goal.specs.Rows.{refusing}
 use Rattle.gb_goal.specs.Scope.{Declarations, procedure_of}
 use Rattle.gb_walk.specs.Clash.{Exclusions}
 use Rattle.gb_mods.specs.Exclusions.{exclusions}
-use Rattle.gb_holds.specs.Declared.{declared}
+use Rattle.gb_meaning.specs.Declared.{declared}
 use Rattle.gb_steps.specs.declared.step.Acts.{Acts}
 use Rattle.gb_steps.specs.declared.step.Acts.TheVariants as on
 use Rattle.gb_steps.specs.declared.step.BodyRule.TheVariants as rule
@@ -40,11 +40,11 @@ use Rattle.gb_typing.specs.Rules.{IsSettingOver}
 use Rattle.gb_typing.specs.Scopes.{IsTypedScope}
 use Rattle.gb_typing.proofs.Given.{given_if, refused_at, refused_given, same_given}
 use Rattle.gb_typing.proofs.Lists.{if_shape}
-use Rattle.gb_holds.specs.Holds.{LoopsAreGood}
+use Rattle.gb_meaning.specs.Holds.{LoopsAreGood}
 use Rattle.gb_bodies.specs.Case.{case_one}
 use Rattle.gb_bodies.specs.Conseq as conseq
 use Rattle.gb_bodies.specs.If.{Branch, branch_at, first_branch, where_true, where_false, of_one, of_both, if_both}
-use Rattle.gb_parts.specs.OneBody.{OneBody, on_one, one_body}
+use Rattle.gb_prog.specs.OneBody.{OneBody, on_one, one_body}
 use Rattle.gb_bodies.specs.Proc as proc
 use Rattle.gb_bodies.specs.Rows.{rule_row}
 use Rattle.gb_bodies.specs.Seq.{seq_row}

@@ -10,20 +10,20 @@ use Rattle.gb_goal.specs.declared.scope.ProcName.{ProcName}
 use Rattle.gb_goal.specs.declared.sequent.Sequent.{Sequent}
 use Rattle.gb_meaning.specs.Commands.{statements}
 use Rattle.gb_meaning.specs.Names.{Name}
-use Rattle.gb_holds.specs.Declared.{declared, terminating}
-use Rattle.gb_holds.specs.Holds.{EachArgument, Holds, InEachModel, IsTerminating, LoopsAreGood, ProcedureIsGood, ProcedureOfIsGood}
-use Rattle.gb_holds.specs.Settings.{Interpretation, setting}
-use Rattle.gb_holds.proofs.Lists.{declared-append}
-use Rattle.gb_holds.proofs.Scopes.{gained_lemma, gained_proof}
-use Rattle.gb_models.proofs.StayingLoops.{found_named_of, module_there}
+use Rattle.gb_meaning.specs.Declared.{declared, terminating}
+use Rattle.gb_meaning.specs.Holds.{EachArgument, Holds, InEachModel, IsTerminating, LoopsAreGood, ProcedureIsGood, ProcedureOfIsGood}
+use Rattle.gb_meaning.specs.Settings.{Interpretation, setting}
+use Rattle.gb_meaning.proofs.Lists.{declared-append}
+use Rattle.gb_meaning.proofs.Scopes.{gained_lemma, gained_proof}
+use Rattle.gb_elab_laws.proofs.StayingLoops.{found_named_of, module_there}
 use Rattle.gb_typing.specs.Formulas.{IsKnown}
 use Rattle.gb_typing.specs.Scopes.{nothing, context_of, is_declared, HasProcedure, IsTypedScope}
 use Rattle.gb_typing.proofs.Located.{typed_in_scope}
 use Rattle.gb_elab_laws.proofs.Scopes.{typed_after}
 use Rattle.gb_smt_laws.proofs.Split.{each_left}
 use Rattle.gb_smt_laws.proofs.Used.{each_together}
-use Rattle.gb_mods_laws.proofs.Shown.{each_shown}
-use Rattle.gb_models.specs.Speaking.{IsFirmScope}
+use Rattle.gb_elab_laws.proofs.Shown.{each_shown}
+use Rattle.gb_elab_laws.specs.Speaking.{IsFirmScope}
 use Rattle.gb_theory.specs.Built.{Session, seen_in, with_ended, with_proved}
 use Rattle.gb_state.specs.declared.state.Claim.{Claim}
 use Rattle.gb_state.specs.declared.state.Claim.TheVariants as claim

@@ -17,7 +17,7 @@ use Rattle.gb_goal.specs.Goal.{judges_bodies}
 use Rattle.gb_goal.specs.declared.sequent.Sequent.{Sequent}
 use Rattle.gb_steps.specs.declared.step.AmbientRule.{AmbientRule}
 use Rattle.gb_steps.specs.declared.step.AmbientRule.TheVariants.{Split, Left, Right, Assumption, Case, Have, Introduce, IntroduceMemory, Discard, Unpack, Branch, Witness, WitnessMemory, Trivial, Done}
-use Rattle.gb_holds.specs.Declared.{Declarations}
+use Rattle.gb_meaning.specs.Declared.{Declarations}
 use Rattle.gb_typing.specs.Context.{Context}
 use Rattle.gb_typing.specs.Forms.{implies_form, not_form}
 use Rattle.gb_typing.specs.Scopes.{context_of}

@@ -18,11 +18,11 @@ use Rattle.gb_script.specs.declared.head.Head.{Head}
 use Rattle.gb_script.specs.declared.head.Head.TheVariants as head
 use Rattle.gb_script.specs.declared.tree.Node.{Node}
 use Rattle.gb_script.specs.Tree.{head_of, text_of, parts_of, place_of}
-use Rattle.gb_holds.specs.Declared.{declared}
-use Rattle.gb_holds.specs.Holds.{declared_modules, interpretation}
-use Rattle.gb_holds.specs.Settings.{setting}
-use Rattle.gb_holds.specs.Truth.{has_module}
-use Rattle.gb_holds.proofs.Scopes.{gained_others}
+use Rattle.gb_meaning.specs.Declared.{declared}
+use Rattle.gb_meaning.specs.Holds.{declared_modules, interpretation}
+use Rattle.gb_meaning.specs.Settings.{setting}
+use Rattle.gb_meaning.specs.Truth.{has_module}
+use Rattle.gb_meaning.proofs.Scopes.{gained_others}
 use Rattle.gb_goal.specs.Answers.{given_or}
 use Rattle.gb_goal.specs.Answers.Answer.{given}
 use Rattle.gb_meaning.specs.Names.{Name}
@@ -38,15 +38,15 @@ use Rattle.gb_typing.proofs.Conclusions.{formula_form}
 use Rattle.gb_typing.proofs.Lifted.{each}
 use Rattle.gb_amb.proofs.Cases.{conclusion_formula}
 use Rattle.gb_elab_laws.proofs.Given.{given_bind, given_is, if_given, some_given}
-use Rattle.gb_variants.specs.Operand.{Found, ended_at, operand, operand_by, proc_name, procedure_at}
-use Rattle.gb_variants.specs.Variants.{goals_of}
+use Rattle.gb_loops.specs.Operand.{Found, ended_at, operand, operand_by, proc_name, procedure_at}
+use Rattle.gb_loops.specs.Variants.{goals_of}
 use Rattle.gb_theory.specs.Built.{Session, OpenProof, with_entries, with_goals}
 use Rattle.gb_theory.specs.Limits.{declaration_limit, each_limit, all_limit}
 use Rattle.gb_theory.specs.Commands.{within, allowed, all_allowed, outside, brought, requires_files, assumes, brings, declares, loops_opened, opens, opens_loops, begun, ended}
 use Rattle.gb_accepted.proofs.Given.{nothing_given, given_outside}
 use Rattle.gb_accepted.proofs.Grounds.{Grounds, IsTypedGoalOf, around, seen}
 use Rattle.gb_typing.specs.Naming.{NoName}
-use Rattle.gb_models.specs.Speaking.{IsFirmScope, ScopeSpeaks}
+use Rattle.gb_elab_laws.specs.Speaking.{IsFirmScope, ScopeSpeaks}
 use Rattle.gb_accepted.proofs.Claims.{claim_proved}
 use Rattle.gb_accepted.proofs.Good.{IsGoodClaim, IsGoodIfOpen, IsGoodTermination, IsGood, StatesProcedures}
 use Rattle.gb_accepted.proofs.Later.{each_later, firm_together, names_stay, proved_later}

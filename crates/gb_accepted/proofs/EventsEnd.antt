@@ -13,12 +13,12 @@ use Rattle.gb_terms.specs.Make.{node}
 use Rattle.gb_goal.specs.Scope.{Declarations}
 use Rattle.gb_steps.specs.declared.step.EventLaw.{EventLaw}
 use Rattle.gb_steps.specs.declared.step.EventLaw.TheVariants as event_law
-use Rattle.gb_chances.specs.Chances.{last, before_last}
-use Rattle.gb_chances.specs.First.{is_quotient, or_else}
+use Rattle.gb_steps.specs.Chances.{last, before_last}
+use Rattle.gb_steps.specs.First.{is_quotient, or_else}
 use Rattle.gb_meaning.specs.Commands.{terms_in}
 use Rattle.gb_meaning.specs.Setting.{Setting}
 use Rattle.gb_mods.specs.Called.{same_procedure}
-use Rattle.gb_parts.specs.Compared.{zero as nought}
+use Rattle.gb_prog.specs.Compared.{zero as nought}
 use Rattle.gb_laws.proofs.Trees.{out_is}
 use Rattle.gb_typing.proofs.Shapes.{node_out}
 use Rattle.gb_rewrite.specs.Events.{by_first, by_law, divided, either, either_of, is_false, law_at, negated, negation_of, parts_by_first}

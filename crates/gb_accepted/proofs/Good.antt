@@ -5,13 +5,13 @@ use Rattle.gb_terms.specs.declared.decl.Proc.{Proc}
 use Rattle.gb_goal.specs.Scope.{Declarations, procedure_of}
 use Rattle.gb_goal.specs.declared.scope.ProcName.{ProcName}
 use Rattle.gb_goal.specs.declared.sequent.Sequent.{Sequent}
-use Rattle.gb_holds.specs.Declared.{declared}
-use Rattle.gb_holds.specs.Holds.{Holds, IsSound}
+use Rattle.gb_meaning.specs.Declared.{declared}
+use Rattle.gb_meaning.specs.Holds.{Holds, IsSound}
 use Rattle.gb_typing.specs.Sequents.{IsTypedSequent}
 use Rattle.gb_typing.specs.Scopes.{context_of, is_declared, IsTypedScope}
 use Rattle.gb_theory.specs.Built.{Session, OpenProof, fresh_session}
 use Rattle.gb_typing.specs.Naming.{NoName}
-use Rattle.gb_models.specs.Speaking.{IsFirmScope, ScopeSpeaks}
+use Rattle.gb_elab_laws.specs.Speaking.{IsFirmScope, ScopeSpeaks}
 use Rattle.gb_elab_laws.specs.Procedures.{IsOfProcedures}
 use Rattle.gb_state.specs.declared.state.Claim.{Claim}
 use Rattle.gb_state.specs.declared.state.Claim.TheVariants as claim

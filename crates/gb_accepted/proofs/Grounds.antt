@@ -35,10 +35,10 @@ use Rattle.gb_steps.specs.declared.step.Step.{Step}
 use Rattle.gb_meaning.specs.Names.{Name}
 use Rattle.gb_meaning.specs.Setting.{Setting}
 use Rattle.gb_meaning.specs.Written.{type_of}
-use Rattle.gb_holds.specs.Declared.{Declarations, concrete_module, declared}
+use Rattle.gb_meaning.specs.Declared.{Declarations, concrete_module, declared}
 use Rattle.gb_typing.specs.Naming.{NoName}
-use Rattle.gb_holds.specs.Holds.{Holds, InEachSetting, IsSound}
-use Rattle.gb_holds.specs.Truth.{has_module}
+use Rattle.gb_meaning.specs.Holds.{Holds, InEachSetting, IsSound}
+use Rattle.gb_meaning.specs.Truth.{has_module}
 use Rattle.gb_typing.specs.Context.{Context, with_own}
 use Rattle.gb_typing.specs.Context as context
 use Rattle.gb_typing.specs.Typing.{IsForm, after}
@@ -51,31 +51,31 @@ use Rattle.gb_bodies.specs.Rows as bodies
 use Rattle.gb_ended.specs.Loops.{unproved_in}
 use Rattle.gb_loops.specs.While.{IsTypedInvariant, while_row}
 use Rattle.gb_prog.specs.Ends.{Entered, IsSoundLoopRule, IsSoundOnLoops, KeepsEnds, LoopsEnd, ProceduresEnd, SequentEnds}
-use Rattle.gb_relational.specs.Rows as equiv
-use Rattle.gb_relational.specs.Rows.{IsTypedRule}
+use Rattle.gb_equiv.specs.Rows as equiv
+use Rattle.gb_equiv.specs.Rows.{IsTypedRule}
 use Rattle.gb_phoare.specs.Rows as chance_rows
 use Rattle.gb_pr.specs.Rows as probability_rows
 use Rattle.gb_call_both.specs.Rows as call_rows
 use Rattle.gb_adv.specs.Rows as abstract_rows
-use Rattle.gb_call_known.specs.Known as of_known
+use Rattle.gb_call_both.specs.Known as of_known
 use Rattle.gb_inline.specs.Proved.{IsSoundOnProved, IsSoundProvedRule, ProvedEnd}
-use Rattle.gb_beside.specs.Beside.{beside_answer}
+use Rattle.gb_trans.specs.Beside.{beside_answer}
 use Rattle.gb_inline.specs.Rows as transformation_rows
 use Rattle.gb_sim.specs.Sim as of_same
 use Rattle.gb_amb.specs.Steps.{IsAnswer, IsTypedStep, LeadTo}
 use Rattle.gb_linear.specs.Closing.{linear_answer}
-use Rattle.gb_use.specs.Lemmas.{IsKnown, LemmasHold}
-use Rattle.gb_use.specs.Uses as uses
+use Rattle.gb_amb.specs.Lemmas.{IsKnown, LemmasHold}
+use Rattle.gb_amb.specs.Uses as uses
 use Rattle.gb_rewrite.specs.Rewriting.{IsUsable, rewrite_answer}
 use Rattle.gb_elab_laws.specs.Procedures.{AreStated, IsOfProcedures}
-use Rattle.gb_models.specs.Speaking.{DeclarationSpeaks, GoalSpeaks, IsFirmScope, IsWithoutModules, ScopeSpeaks}
+use Rattle.gb_elab_laws.specs.Speaking.{DeclarationSpeaks, GoalSpeaks, IsFirmScope, IsWithoutModules, ScopeSpeaks}
 use Rattle.gb_smt.specs.Leaves.{leaves_of}
 use Rattle.gb_smt.specs.Apply.{IsClosed}
 use Rattle.gb_elab_prog.specs.Entries.{entries_given}
 use Rattle.gb_elab_mod.specs.Lemmas.{lemma_name, statement_given}
 use Rattle.gb_elab_prog.specs.Modules.{module_given}
 use Rattle.gb_elab_mod.specs.Steps.{step_given}
-use Rattle.gb_models.specs.Promised.{HasModel, equivalence, stated, AreCoupledInEachModel}
+use Rattle.gb_elab_laws.specs.Promised.{HasModel, equivalence, stated, AreCoupledInEachModel}
 
 -- typed declarations of a scope, a typed goal over them, and its context
 abbrev pub IsTyped : scope.Declarations → Type 0

@@ -18,9 +18,9 @@ use Rattle.gb_meaning.specs.Commands.{called, program_of, statements, terms_in}
 use Rattle.gb_meaning.specs.Program.Program.{assign, sample, branch, loop}
 use Rattle.gb_meaning.specs.Setting.{Setting}
 use Rattle.gb_laws.proofs.Trees.{out_is}
-use Rattle.gb_holds.specs.Declared.{Declarations}
-use Rattle.gb_holds.specs.Holds.{LoopsAreGood, declared_modules, interpretation}
-use Rattle.gb_holds.specs.Settings.{setting}
+use Rattle.gb_meaning.specs.Declared.{Declarations}
+use Rattle.gb_meaning.specs.Holds.{LoopsAreGood, declared_modules, interpretation}
+use Rattle.gb_meaning.specs.Settings.{setting}
 use Rattle.gb_laws.specs.Typing.{types_of, IsHead}
 use Rattle.gb_typing.specs.Context.{Context, erased}
 use Rattle.gb_typing.specs.Formulas.{IsFormula}

@@ -8,11 +8,11 @@ use Rattle.gb_goal.specs.Scope.{Declarations}
 use Rattle.gb_goal.specs.declared.scope.Entry.{Entry}
 use Rattle.gb_goal.specs.declared.scope.Entry.TheVariants as entry
 use Rattle.gb_goal.specs.declared.sequent.Sequent.{Sequent}
-use Rattle.gb_holds.specs.Declared.{declared}
-use Rattle.gb_holds.specs.Holds.{Holds, IsSound}
+use Rattle.gb_meaning.specs.Declared.{declared}
+use Rattle.gb_meaning.specs.Holds.{Holds, IsSound}
 use Rattle.gb_typing.specs.Naming.{NoName}
-use Rattle.gb_models.specs.Speaking.{GoalSpeaks, IsFirmScope, IsWithoutModules, ScopeSpeaks}
-use Rattle.gb_use.specs.Lemmas.{IsLemmaIn, LemmasHold}
+use Rattle.gb_elab_laws.specs.Speaking.{GoalSpeaks, IsFirmScope, IsWithoutModules, ScopeSpeaks}
+use Rattle.gb_amb.specs.Lemmas.{IsLemmaIn, LemmasHold}
 use Rattle.gb_elab_laws.specs.Procedures.{AreStated, IsOfProcedures}
 use Rattle.gb_elab_laws.proofs.Used.{lemma_in}
 use Rattle.gb_theory.specs.Built.{Session}

@@ -14,8 +14,8 @@ use Rattle.gb_goal.specs.declared.sequent.Sequent.{Sequent}
 use Rattle.gb_steps.specs.declared.step.Acts.{Acts}
 use Rattle.gb_steps.specs.declared.step.Acts.TheVariants as on
 use Rattle.gb_steps.specs.declared.step.Rule.TheVariants.{Call}
-use Rattle.gb_holds.specs.Declared.{declared}
-use Rattle.gb_holds.specs.Holds.{Holds, InEachSetting, declared_modules, interpretation}
+use Rattle.gb_meaning.specs.Declared.{declared}
+use Rattle.gb_meaning.specs.Holds.{Holds, InEachSetting, declared_modules, interpretation}
 use Rattle.gb_typing.specs.Context.{Context}
 use Rattle.gb_typing.specs.Goals.{IsGoalOver, IsTypedGoal}
 use Rattle.gb_typing.specs.Scopes.{context_of, IsTypedScope}
@@ -24,8 +24,8 @@ use Rattle.gb_typing.specs.Typing.{IsForm}
 use Rattle.gb_typing.proofs.Given.{refused_given, same_given}
 use Rattle.gb_typing.proofs.Lifted.{each}
 use Rattle.gb_prog.specs.Ends.{KeepsEnds, SequentEnds}
-use Rattle.gb_call_known.specs.Known.{IsAnswer, behind, by_chances, by_conditions, contract}
-use Rattle.gb_call_known.proofs.KnownIsSound.{behind_goals}
+use Rattle.gb_call_both.specs.Known.{IsAnswer, behind, by_chances, by_conditions, contract}
+use Rattle.gb_call_both.proofs.KnownIsSound.{behind_goals}
 use Rattle.gb_accepted.proofs.CallsEnd.{calls_end, side_ends}
 use Rattle.gb_accepted.proofs.LiftedEnd.{row_ends}
 

@@ -8,11 +8,11 @@ use Rattle.gb_goal.specs.declared.scope.Entry.{Entry}
 use Rattle.gb_goal.specs.declared.scope.Entry.TheVariants as entry
 use Rattle.gb_goal.specs.declared.sequent.Sequent.{Sequent}
 use Rattle.gb_meaning.specs.Names.{Name}
-use Rattle.gb_holds.specs.Declared.{declared}
-use Rattle.gb_holds.specs.Holds.{Holds}
+use Rattle.gb_meaning.specs.Declared.{declared}
+use Rattle.gb_meaning.specs.Holds.{Holds}
 use Rattle.gb_typing.specs.Sequents.{IsTypedSequent}
 use Rattle.gb_typing.specs.Scopes.{context_of, IsTypedScope}
-use Rattle.gb_models.specs.Speaking.{IsFirmScope}
+use Rattle.gb_elab_laws.specs.Speaking.{IsFirmScope}
 use Rattle.gb_smt_laws.proofs.Used.{each_together}
 use Rattle.gb_accepted.specs.Holding.{Lemma, IsProved, with_entry, lemmas_in, names_of}
 

@@ -14,11 +14,11 @@ use Rattle.gb_meaning.specs.Judgments.{Judge, IsFair}
 use Rattle.gb_meaning.specs.Setting.{Setting}
 use Rattle.gb_meaning.specs.State.{State}
 use Rattle.gb_meaning.specs.Written.{type_of}
-use Rattle.gb_holds.specs.Declared.{Declarations}
-use Rattle.gb_holds.specs.Holds.{Holds, InEachSetting, context, declared_modules, interpretation}
-use Rattle.gb_holds.specs.Settings.{Interpretation, setting}
-use Rattle.gb_holds.specs.Truth.{Truth}
-use Rattle.gb_holds.proofs.Fronts.{without_modules}
+use Rattle.gb_meaning.specs.Declared.{Declarations}
+use Rattle.gb_meaning.specs.Holds.{Holds, InEachSetting, context, declared_modules, interpretation}
+use Rattle.gb_meaning.specs.Settings.{Interpretation, setting}
+use Rattle.gb_meaning.specs.Truth.{Truth}
+use Rattle.gb_meaning.proofs.Fronts.{without_modules}
 use Rattle.gb_typing.specs.Chosen.{IsChosenOver}
 use Rattle.gb_typing.specs.Context.{Context}
 use Rattle.gb_typing.specs.Fits.{IsSettingOf, IsStateOf}

@@ -9,19 +9,19 @@ use Rattle.gb_goal.specs.Goal.{goal_of}
 use Rattle.gb_goal.specs.Scope.{Declarations}
 use Rattle.gb_goal.specs.declared.scope.ProcName.{ProcName}
 use Rattle.gb_goal.specs.declared.sequent.Sequent.{Sequent}
-use Rattle.gb_holds.specs.Declared.{declared}
-use Rattle.gb_holds.specs.Holds.{Holds, InEachModel, LoopsAreGood, declared_modules, interpretation}
-use Rattle.gb_holds.specs.Settings.{Interpretation, setting}
+use Rattle.gb_meaning.specs.Declared.{declared}
+use Rattle.gb_meaning.specs.Holds.{Holds, InEachModel, LoopsAreGood, declared_modules, interpretation}
+use Rattle.gb_meaning.specs.Settings.{Interpretation, setting}
 use Rattle.gb_meaning.specs.Commands.{statements}
 use Rattle.gb_prog.specs.Ends.{LoopsEnd}
 use Rattle.gb_typing.proofs.Lifted.{both, each}
-use Rattle.gb_variants.specs.Loops.{Loop, loops}
-use Rattle.gb_variants.specs.Variants.{above_zero, falling_goal, loop_goals, over_none}
-use Rattle.gb_mods_laws.specs.Good.{LoopIsGood, AreGoodLoops, IsShownBy}
-use Rattle.gb_mods_laws.proofs.AllGood.{all_good}
-use Rattle.gb_mods_laws.proofs.GoalsEnd.{above_ends, turn_ends}
-use Rattle.gb_mods_laws.proofs.Inner.{inner_before}
-use Rattle.gb_mods_laws.proofs.Lists.{behind, together}
+use Rattle.gb_loops.specs.Loops.{Loop, loops}
+use Rattle.gb_loops.specs.Variants.{above_zero, falling_goal, loop_goals, over_none}
+use Rattle.gb_elab_laws.specs.Good.{LoopIsGood, AreGoodLoops, IsShownBy}
+use Rattle.gb_elab_laws.proofs.AllGood.{all_good}
+use Rattle.gb_elab_laws.proofs.GoalsEnd.{above_ends, turn_ends}
+use Rattle.gb_elab_laws.proofs.Inner.{inner_before}
+use Rattle.gb_elab_laws.proofs.Lists.{behind, together}
 use Rattle.gb_smt_laws.proofs.Split.{each_left}
 use Rattle.gb_smt_laws.proofs.Used.{each_together}
 use Rattle.gb_accepted.proofs.Grounds.{IsGoalThatEnds}

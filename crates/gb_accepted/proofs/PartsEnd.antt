@@ -15,7 +15,7 @@ use Rattle.gb_meaning.specs.Commands.{terms_in}
 use Rattle.gb_laws.proofs.Changed.{changed_at, term_changed_is}
 use Rattle.gb_laws.proofs.Forms.{procedure_stays}
 use Rattle.gb_laws.proofs.Trees.{out_is}
-use Rattle.gb_holds.specs.Truth.{last_has_module, Choice}
+use Rattle.gb_meaning.specs.Truth.{last_has_module, Choice}
 use Rattle.gb_typing.specs.Context.{Context}
 use Rattle.gb_typing.specs.Formulas.{IsFormula, IsLastFormula}
 use Rattle.gb_typing.specs.Typing.{AreTyped}

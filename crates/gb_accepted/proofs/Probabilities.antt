@@ -17,12 +17,12 @@ use Rattle.gb_steps.specs.declared.step.Conditions.{Conditions}
 use Rattle.gb_steps.specs.declared.step.ProbabilityRule.{ProbabilityRule}
 use Rattle.gb_steps.specs.declared.step.ProbabilityRule.TheVariants.{ByEquiv, ByPhoare, ByEvents, Within}
 use Rattle.gb_steps.specs.declared.step.Rule.TheVariants.{Probability}
-use Rattle.gb_chances.specs.Chances.{Bounded, Compared, bounded_in, bounded_of, chances_in, chances_of, compared_at, compared_of}
+use Rattle.gb_steps.specs.Chances.{Bounded, Compared, bounded_in, bounded_of, chances_in, chances_of, compared_at, compared_of}
 use Rattle.gb_meaning.specs.Setting.{Setting}
 use Rattle.gb_laws.proofs.Trees.{out_is}
-use Rattle.gb_holds.specs.Truth.{has_module}
+use Rattle.gb_meaning.specs.Truth.{has_module}
 use Rattle.gb_typing.proofs.Given.{refused_given, same_given}
-use Rattle.gb_parts.specs.Compared.{literal}
+use Rattle.gb_prog.specs.Compared.{literal}
 use Rattle.gb_pr.specs.ByEquiv.{by_equiv_at, by_equiv_goals, by_equiv_of}
 use Rattle.gb_pr.specs.ByEvents.{by_events_goals, by_events_of, is_kept, same_rel, same_start, within_of}
 use Rattle.gb_pr.specs.ByPhoare.{by_phoare_at, by_phoare_goals, by_phoare_of}

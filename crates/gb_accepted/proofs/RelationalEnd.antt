@@ -9,7 +9,7 @@ use Rattle.gb_terms.specs.declared.decl.TypedName.{TypedName}
 use Rattle.gb_terms.specs.declared.op.Side.TheVariants.{Own}
 use Rattle.gb_terms.specs.declared.term.Instr.{Instr}
 use Rattle.gb_terms.specs.declared.term.Term.{Term}
-use Rattle.gb_holds.specs.Holds.{LoopsAreGood}
+use Rattle.gb_meaning.specs.Holds.{LoopsAreGood}
 use Rattle.gb_meaning.specs.Commands.{statements}
 use Rattle.gb_meaning.specs.Setting.{Setting}
 use Rattle.gb_goal.specs.Answers.Answer.{given}
@@ -20,7 +20,7 @@ use Rattle.gb_goal.specs.Rows.{refusing}
 use Rattle.gb_goal.specs.Scope.{Declarations}
 use Rattle.gb_walk.specs.Clash.{Exclusions}
 use Rattle.gb_mods.specs.Exclusions.{exclusions}
-use Rattle.gb_holds.specs.Declared.{declared}
+use Rattle.gb_meaning.specs.Declared.{declared}
 use Rattle.gb_steps.specs.declared.step.Rule.{Rule}
 use Rattle.gb_steps.specs.declared.step.Rule.TheVariants.{OnBodies, Relational, Chance, Probability, Call, CallKnown, Abstract, While, Transform, Ambient, Use, Rewrite, Smt, Linear}
 use Rattle.gb_steps.specs.declared.step.RelationalRule.TheVariants.{Rnd, Symmetry, Drawn, Transitivity, Sim}
@@ -33,15 +33,15 @@ use Rattle.gb_typing.specs.Programs.{IsBody}
 use Rattle.gb_typing.specs.Samplings.{Sampling, last_sampling}
 use Rattle.gb_typing.proofs.Given.{refused_given, same_given}
 use Rattle.gb_typing.proofs.LastSampling.{drawn, last_one}
-use Rattle.gb_parts.specs.OneBody.{OneBody, on_one, one_body}
+use Rattle.gb_prog.specs.OneBody.{OneBody, on_one, one_body}
 use Rattle.gb_equiv.specs.Drawn.{by_end, clashing, unless_clash, without_sampling}
 use Rattle.gb_equiv.specs.Rnd.{by_ends, by_maps, clash_of, maps, rnd_row, without_samplings}
 use Rattle.gb_equiv.specs.Symmetry.{symmetry_row}
 use Rattle.gb_forms.specs.declared.coupled.Maps.{Maps}
-use Rattle.gb_relational.specs.OneSide as one_side
-use Rattle.gb_relational.specs.OneSide.{drawn_row}
-use Rattle.gb_relational.specs.Rows.{rule_row}
-use Rattle.gb_relational.specs.Transitivity.{transitivity_row}
+use Rattle.gb_equiv.specs.OneSide as one_side
+use Rattle.gb_equiv.specs.OneSide.{drawn_row}
+use Rattle.gb_equiv.specs.Rows.{rule_row}
+use Rattle.gb_equiv.specs.Transitivity.{transitivity_row}
 use Rattle.gb_prog.specs.Ends.{KeepsEnds, LoopsEnd}
 use Rattle.gb_accepted.proofs.BodiesEnd.{Around, by_body}
 use Rattle.gb_prog.proofs.Own.{good_append}

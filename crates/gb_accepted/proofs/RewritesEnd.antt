@@ -25,9 +25,9 @@ use Rattle.gb_meaning.specs.Setting.{Setting}
 use Rattle.gb_laws.proofs.Trees.{out_is}
 use Rattle.gb_eval.specs.Meant.{IsBody}
 use Rattle.gb_eval.specs.Script.{body_named}
-use Rattle.gb_holds.specs.Declared.{Declarations, declared}
-use Rattle.gb_holds.specs.Settings.{setting}
-use Rattle.gb_holds.specs.Truth.{has_module}
+use Rattle.gb_meaning.specs.Declared.{Declarations, declared}
+use Rattle.gb_meaning.specs.Settings.{setting}
+use Rattle.gb_meaning.specs.Truth.{has_module}
 use Rattle.gb_laws.proofs.Exact.{trying}
 use Rattle.gb_laws.proofs.Fair.{is_fair}
 use Rattle.gb_typing.specs.Context.{Context}
@@ -42,7 +42,7 @@ use Rattle.gb_typing.proofs.Lifted.{InEachSequent, joined, sequent_outermost}
 use Rattle.gb_typing.proofs.Models.{each_setting}
 use Rattle.gb_typing.proofs.Shapes.{node_out}
 use Rattle.gb_prog.specs.Ends.{LoopsEnd, SequentEnds}
-use Rattle.gb_parts.specs.Same.{is_same}
+use Rattle.gb_prog.specs.Same.{is_same}
 use Rattle.gb_smt_laws.proofs.Bodies.{scope_bodies}
 use Rattle.gb_amb.specs.Parts.{concluding}
 use Rattle.gb_amb.specs.Quantified.{goal_quantifies_modules, quantifies_modules}

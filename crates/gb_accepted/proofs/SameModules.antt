@@ -32,7 +32,7 @@ use Rattle.gb_amb.specs.Parts.{concluding, each_concluding, parts_of}
 use Rattle.gb_amb.specs.Quantified.{goal_quantifies_modules, quantifies_modules}
 use Rattle.gb_amb.specs.Steps.{IsAnswer, assuming, by_cases}
 use Rattle.gb_amb.specs.Witness.{at_memory, memory_witnessed_at, witnessed_at}
-use Rattle.gb_use.specs.Uses as uses
+use Rattle.gb_amb.specs.Uses as uses
 use Rattle.gb_rewrite.specs.Equations.{Pair, equation_of, equivalence_of, exchanged, used_up_of}
 use Rattle.gb_rewrite.specs.Events.{by_first}
 use Rattle.gb_rewrite.specs.Rewriting.{by_event_law, concluding_by, opening_by, rewrite_answer, rewriting, unfolded_everywhere, using_up, using_up_hypothesis, without}

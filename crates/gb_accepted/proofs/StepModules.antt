@@ -23,14 +23,14 @@ use Rattle.gb_steps.specs.declared.step.Transformation.{Transformation}
 use Rattle.gb_steps.specs.declared.step.Transformation.TheVariants as transformation
 use Rattle.gb_typing.proofs.Given.{refused_at, refused_given, same_given}
 use Rattle.gb_bodies.specs.Rows as bodies
-use Rattle.gb_parts.specs.OneBody.{OneBody}
+use Rattle.gb_prog.specs.OneBody.{OneBody}
 use Rattle.gb_trans.specs.Places.{At, on_place, statement_at}
-use Rattle.gb_guards.specs.Decided.{Decision, decision}
+use Rattle.gb_trans.specs.Decided.{Decision, decision}
 use Rattle.gb_call_both.specs.OneSide.{speaks}
-use Rattle.gb_call_known.specs.Known.{behind, behind_first, by_conditions}
-use Rattle.gb_call_known.specs.Known as of_known
+use Rattle.gb_call_both.specs.Known.{behind, behind_first, by_conditions}
+use Rattle.gb_call_both.specs.Known as of_known
 use Rattle.gb_amb.specs.Quantified.{goal_quantifies_modules}
-use Rattle.gb_beside.specs.Beside.{at_place, beside_answer, by_decision, on_body, one_of_two}
+use Rattle.gb_trans.specs.Beside.{at_place, beside_answer, by_decision, on_body, one_of_two}
 use Rattle.gb_sim.specs.Sim as same_statements
 use Rattle.gb_linear.specs.Closing.{linear_answer}
 use Rattle.gb_closing_laws.proofs.LinearIsSound.{closes}

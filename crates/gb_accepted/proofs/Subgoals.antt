@@ -39,11 +39,11 @@ use Rattle.gb_steps.specs.declared.step.Rule.TheVariants as rule
 use Rattle.gb_steps.specs.declared.step.Multiple.{Multiple}
 use Rattle.gb_steps.specs.declared.step.Transformation.{Transformation}
 use Rattle.gb_steps.specs.declared.step.Transformation.TheVariants as transformation
-use Rattle.gb_beside.specs.Beside.{beside_answer, on_body, one_of_two}
-use Rattle.gb_holds.specs.Declared as holds
-use Rattle.gb_holds.specs.Declared.{declared}
-use Rattle.gb_holds.specs.Holds.{Holds, InEachSetting, declared_modules, interpretation}
-use Rattle.gb_holds.specs.Truth.{has_module}
+use Rattle.gb_trans.specs.Beside.{beside_answer, on_body, one_of_two}
+use Rattle.gb_meaning.specs.Declared as holds
+use Rattle.gb_meaning.specs.Declared.{declared}
+use Rattle.gb_meaning.specs.Holds.{Holds, InEachSetting, declared_modules, interpretation}
+use Rattle.gb_meaning.specs.Truth.{has_module}
 use Rattle.gb_typing.specs.Typing.{IsForm, after}
 use Rattle.gb_typing.specs.Sequents.{IsTypedSequent}
 use Rattle.gb_typing.specs.Scopes.{context_of}
@@ -62,12 +62,12 @@ use Rattle.gb_ended.specs.Loops.{unproved_in}
 use Rattle.gb_inline.specs.Proved.{IsSoundOnProved, ProvedEnd}
 use Rattle.gb_closing_laws.proofs.LinearIsSound.{closes}
 use Rattle.gb_loops.specs.While.{IsTypedInvariant, while_row}
-use Rattle.gb_relational.specs.Rows.{IsTypedRule}
+use Rattle.gb_equiv.specs.Rows.{IsTypedRule}
 use Rattle.gb_sim.specs.Sim as same_statements
 use Rattle.gb_amb.specs.Steps.{IsTypedStep}
 use Rattle.gb_linear.specs.Closing.{linear_answer}
-use Rattle.gb_use.specs.Lemmas.{IsKnown, LemmasHold}
-use Rattle.gb_use.specs.Uses as uses
+use Rattle.gb_amb.specs.Lemmas.{IsKnown, LemmasHold}
+use Rattle.gb_amb.specs.Uses as uses
 use Rattle.gb_rewrite.specs.Events.{IsTypedLaw}
 use Rattle.gb_rewrite.specs.Rewriting.{IsUsable}
 use Rattle.gb_smt.specs.Leaves.{leaves_of}

@@ -1,6 +1,6 @@
 -- Loops of programs in which an operator is unfolded.
 use Rattle.std.proofs.Common.{◌≡◌, ◌^◌, false, List, Option, Some, None, sym, subst}
-use Rattle.gb_coupling.specs.WeightedList.{Every, SameDistribution}
+use Rattle.gb_dist.specs.WeightedList.{Every, SameDistribution}
 use Rattle.gb_core.specs.declared.var.Var.{Var}
 use Rattle.gb_terms.specs.declared.decl.TypedName.{TypedName}
 use Rattle.gb_terms.specs.declared.term.Head.TheVariants.{Assign, Sample, Call', If', While'}
@@ -17,7 +17,7 @@ use Rattle.gb_meaning.specs.Runs.{turns}
 use Rattle.gb_meaning.specs.Setting.{Setting}
 use Rattle.gb_meaning.specs.State.{closed}
 use Rattle.gb_eval.specs.Meant.{IsBody}
-use Rattle.gb_holds.specs.Holds.{LoopsAreGood}
+use Rattle.gb_meaning.specs.Holds.{LoopsAreGood}
 use Rattle.gb_typing.specs.Context.{Context}
 use Rattle.gb_typing.specs.Fits.{IsSettingOf}
 use Rattle.gb_typing.specs.Programs.{AreStatements, IsExpression}

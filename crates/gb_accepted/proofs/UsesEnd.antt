@@ -8,15 +8,15 @@ use Rattle.gb_goal.specs.Answers.Answer.{given}
 use Rattle.gb_goal.specs.declared.sequent.Sequent.{Sequent}
 use Rattle.gb_steps.specs.declared.step.UseRule.{UseRule}
 use Rattle.gb_steps.specs.declared.step.UseRule.TheVariants.{Apply, Have}
-use Rattle.gb_holds.specs.Declared.{Declarations}
+use Rattle.gb_meaning.specs.Declared.{Declarations}
 use Rattle.gb_typing.specs.Context.{Context}
 use Rattle.gb_typing.specs.Typing.{IsForm}
 use Rattle.gb_typing.proofs.Given.{refused_at, same_given}
 use Rattle.gb_prog.specs.Ends.{SequentEnds}
 use Rattle.gb_amb.specs.Parts.{concluding}
 use Rattle.gb_amb.specs.Steps.{assuming}
-use Rattle.gb_use.specs.Uses.{IsAnswer, used_by}
-use Rattle.gb_use.proofs.Premises.{premises_typed}
+use Rattle.gb_amb.specs.Uses.{IsAnswer, used_by}
+use Rattle.gb_amb.proofs.UsedPremises.{premises_typed}
 use Rattle.gb_accepted.proofs.HeadsEnd.{bare_ends, typed_bare}
 
 module _ (ds : Declarations) (q : Sequent) (c : Context) where

@@ -6,15 +6,15 @@ use Rattle.gb_terms.specs.declared.module.Mexp.{Mexp}
 use Rattle.gb_terms.specs.declared.module.ProcRef.{ProcRef}
 use Rattle.gb_goal.specs.Interfaces.{Interface, interface_at}
 use Rattle.gb_goal.specs.Scope.{Declarations, procedure_of}
-use Rattle.gb_holds.specs.Declared.{declared}
-use Rattle.gb_holds.specs.Footprints.{footprint_read}
-use Rattle.gb_holds.specs.Footprints as meant
-use Rattle.gb_holds.specs.Holds.{InEachModel}
-use Rattle.gb_holds.specs.Modules.{modules_of, no_module}
-use Rattle.gb_holds.specs.Naming.{EachName}
-use Rattle.gb_holds.specs.Settings.{setting}
+use Rattle.gb_meaning.specs.Declared.{declared}
+use Rattle.gb_meaning.specs.Footprints.{footprint_read}
+use Rattle.gb_meaning.specs.Footprints as meant
+use Rattle.gb_meaning.specs.Holds.{InEachModel}
+use Rattle.gb_meaning.specs.Modules.{modules_of, no_module}
+use Rattle.gb_meaning.specs.Naming.{EachName}
+use Rattle.gb_meaning.specs.Settings.{setting}
 use Rattle.gb_mods.specs.Footprint.{footprint}
-use Rattle.gb_mods_laws.specs.Members.{Has}
+use Rattle.gb_elab_laws.specs.Members.{Has}
 use Rattle.gb_ended.specs.Ended.{first_unproved}
 use Rattle.gb_prog.specs.Ends.{ReachesGoodLoops}
 

@@ -2,7 +2,7 @@
 
 ghost use Rattle.std.specs.Prelude.{ℕ, List};
 ghost use Rattle.gb_goal.specs.Answers.Answer.{given};
-ghost use Rattle.gb_mods_laws.specs.Members.{CallsAreDeclared};
+ghost use Rattle.gb_elab_laws.specs.Members.{CallsAreDeclared};
 ghost use Rattle.gb_theory.specs.Built.{Session};
 ghost use Rattle.gb_theory.specs.Outcome.{IsOutcome};
 ghost use Rattle.gb_accepted.specs.Holding.{IsPromised};
@@ -11,10 +11,10 @@ ghost use Rattle.gb_accepted.specs.Scopes.{EndedLoopsAreGood, FootprintsAreMeant
 use gb_closing_laws::linear_laws::linear_is_sound;
 use gb_closing_laws::smt_laws::sound_smt;
 use gb_elab_laws::declaration_laws::{entries, lemmas, modules, statements};
+use gb_elab_laws::promise_laws::{equivalences_give_couplings, typed_scopes_have_models};
+use gb_elab_laws::stay_laws::{goals_stay, goals_stay_typed, parts_of_scopes};
 use gb_elab_laws::step_laws::{typed_forms, typed_rules};
-use gb_holds::truth_laws::declared_modules;
-use gb_models::promise_laws::{equivalences_give_couplings, typed_scopes_have_models};
-use gb_models::stay_laws::{goals_stay, goals_stay_typed, parts_of_scopes};
+use gb_meaning::truth_laws::declared_modules;
 use gb_typing::goal_laws::{fronts, typing};
 use gb_typing::rule_laws::{contexts, sequents};
 
@@ -43,8 +43,8 @@ pub fn accepted_scripts()
     sequents();
     gb_bodies::laws::rules();
     gb_bodies::laws::other_forms();
-    gb_relational::laws::relational_rules();
-    gb_relational::laws::other_goals();
+    gb_equiv::relational_laws::relational_rules();
+    gb_equiv::relational_laws::other_goals();
     gb_phoare::laws::chance_rules();
     gb_phoare::laws::no_judgments();
     gb_pr::laws::probability_rules();
@@ -54,8 +54,8 @@ pub fn accepted_scripts()
     gb_adv::laws::refused_forms();
     gb_inline::laws::transforming_rules();
     gb_inline::laws::untransformed_forms();
-    gb_beside::laws::decided_beside();
-    gb_call_known::laws::known_calls();
+    gb_trans::beside_laws::decided_beside();
+    gb_call_both::known_laws::known_calls();
     gb_sim::laws::same_statements();
     crate::end_laws::rows();
     crate::end_laws::sequents();
@@ -69,15 +69,15 @@ pub fn accepted_scripts()
     crate::end_laws::conclusions();
     crate::end_laws::equals();
     crate::end_laws::forms();
-    gb_mods_laws::loop_laws::entered();
-    gb_mods_laws::loop_laws::proved_loops();
-    gb_mods_laws::loop_laws::ended_modules();
-    gb_mods_laws::footprint_laws::declared_calls();
-    gb_mods_laws::footprint_laws::footprints();
+    gb_elab_laws::loop_laws::entered();
+    gb_elab_laws::loop_laws::proved_loops();
+    gb_elab_laws::loop_laws::ended_modules();
+    gb_elab_laws::footprint_laws::declared_calls();
+    gb_elab_laws::footprint_laws::footprints();
     gb_loops::while_loop::while_is_sound();
     gb_amb::laws::steps();
-    gb_use::laws::sound_uses();
-    gb_use::laws::instances_hold();
+    gb_amb::using_laws::sound_uses();
+    gb_amb::using_laws::instances_hold();
     gb_rewrite::laws::sound_rewriting();
     sound_smt();
     linear_is_sound();

@@ -45,8 +45,8 @@ use Rattle.gb_typing.proofs.Quantified.{inside_all}
 use Rattle.gb_prog.specs.AllValues.{Located, AreAlone, for_all, to_bound_values}
 use Rattle.gb_prog.specs.Writes.{AreIn, DifferIn, IsApart, IsOneOf, TypedVariable, overwritten}
 use Rattle.gb_prog.proofs.AllValues.{all_true, binder_of, binding_of, bound_term, for_all_typed, no_frame, one_put, pushed, pushed_here}
-use Rattle.gb_parts.specs.Assigned.{taken}
-use Rattle.gb_parts.proofs.AssignedForms.{changes_are, put_itself, writes}
+use Rattle.gb_prog.specs.Assigned.{taken}
+use Rattle.gb_prog.proofs.AssignedForms.{changes_are, put_itself, writes}
 use Rattle.gb_call.specs.Outcomes.{Outcome}
 use Rattle.gb_call.proofs.After.{all_append, written_both}
 use Rattle.gb_call.proofs.LeftSides.{AreFor, are_for, left_ends, left_puts, left_values, left_writes}

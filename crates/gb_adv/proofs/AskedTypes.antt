@@ -20,7 +20,7 @@ use Rattle.gb_goal.specs.Interfaces.{Interface, ProcedureType, fits, found, give
 use Rattle.gb_goal.specs.Scope.{Declarations, as_abstract, entry_of, module_type_of}
 use Rattle.gb_meaning.specs.Names.{Name}
 use Rattle.gb_laws.specs.Finite.{IsVariableType}
-use Rattle.gb_holds.specs.Declared.{ModuleType, Signature, declared, signature_in}
+use Rattle.gb_meaning.specs.Declared.{ModuleType, Signature, declared, signature_in}
 use Rattle.gb_typing.specs.Formulas.{IsKnown}
 use Rattle.gb_typing.specs.Programs.{HaveVariableTypes}
 use Rattle.gb_typing.specs.Scopes.{IsTypedScope}

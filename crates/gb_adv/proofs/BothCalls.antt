@@ -5,11 +5,11 @@ use Rattle.gb_core.specs.declared.ty.Ty.TheVariants as ty
 use Rattle.gb_core.specs.declared.value.Value.{Value}
 use Rattle.gb_core.specs.declared.var.Var.{Var}
 use Rattle.gb_core.specs.declared.var.Var.TheVariants as var
-use Rattle.gb_coupling.specs.Coupling.{Coupling}
-use Rattle.gb_coupling.specs.WeightedList.{On}
-use Rattle.gb_coupling.proofs.Basic.{coupling_weakening}
-use Rattle.gb_coupling.proofs.Entries.{On_of_Every}
-use Rattle.gb_coupling.proofs.Facts.{coupling_facts}
+use Rattle.gb_dist.specs.Coupling.{Coupling}
+use Rattle.gb_dist.specs.WeightedList.{On}
+use Rattle.gb_dist.proofs.Basic.{coupling_weakening}
+use Rattle.gb_dist.proofs.Entries.{On_of_Every}
+use Rattle.gb_dist.proofs.Facts.{coupling_facts}
 use Rattle.gb_terms.specs.declared.module.Mexp.TheVariants.{Name as named}
 use Rattle.gb_terms.specs.declared.module.ProcRef.{ProcRef}
 use Rattle.gb_terms.specs.declared.term.Term.{Term}
@@ -28,7 +28,7 @@ use Rattle.gb_meaning.specs.State.{State, between}
 use Rattle.gb_meaning.specs.Values.{Global}
 use Rattle.gb_meaning.proofs.Runs.{routine_entries, routine_positive}
 use Rattle.gb_laws.proofs.Fair.{memory_discrete}
-use Rattle.gb_holds.specs.Declared.{declared}
+use Rattle.gb_meaning.specs.Declared.{declared}
 use Rattle.gb_mods.specs.Exclusions.{exclusions}
 use Rattle.gb_mods.specs.Meant.{meant_by}
 use Rattle.gb_mods.specs.declared.meant.Meant.TheVariants.{Any}
@@ -47,9 +47,9 @@ use Rattle.gb_adversaries.proofs.KeptOff.{kept_off}
 use Rattle.gb_adversaries.proofs.Meanings.{both_mean}
 use Rattle.gb_adversaries.proofs.Signatures.{type_same}
 use Rattle.gb_prog.specs.Writes.{DifferIn}
-use Rattle.gb_open.specs.Coupled.{Alike, IsKept}
-use Rattle.gb_abstract.specs.Kept.{AreKeeping}
-use Rattle.gb_abstract.proofs.Kept.{abstract_coupled}
+use Rattle.gb_adversaries.specs.Coupled.{Alike, IsKept}
+use Rattle.gb_adversaries.specs.Kept.{AreKeeping}
+use Rattle.gb_adversaries.proofs.Kept.{abstract_coupled}
 use Rattle.gb_call.proofs.Callees.{IsResult}
 use Rattle.gb_adv.specs.Abstract.{AbstractProcedure}
 use Rattle.gb_adv.specs.Oracles.{each_keep_both, writes_of}

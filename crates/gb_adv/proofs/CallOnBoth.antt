@@ -8,8 +8,8 @@ use Rattle.gb_core.specs.declared.ty.Ty.TheVariants as ty
 use Rattle.gb_core.specs.declared.value.Value.{Value}
 use Rattle.gb_core.specs.declared.var.Var.{Var}
 use Rattle.gb_core.specs.declared.var.Var.TheVariants as var
-use Rattle.gb_coupling.specs.Coupling.{Coupling}
-use Rattle.gb_coupling.proofs.Basic.{coupling_dmap}
+use Rattle.gb_dist.specs.Coupling.{Coupling}
+use Rattle.gb_dist.proofs.Basic.{coupling_dmap}
 use Rattle.gb_terms.specs.declared.decl.TypedName.{TypedName}
 use Rattle.gb_terms.specs.declared.op.Side.TheVariants as side
 use Rattle.gb_terms.specs.declared.term.Instr.{Instr}
@@ -26,7 +26,7 @@ use Rattle.gb_meaning.specs.State.{State, between}
 use Rattle.gb_laws.specs.Finite.{IsFinite}
 use Rattle.gb_laws.specs.Programs.{Take}
 use Rattle.gb_laws.specs.Uses.{Uses, IsWithin}
-use Rattle.gb_holds.specs.Declared.{declared}
+use Rattle.gb_meaning.specs.Declared.{declared}
 use Rattle.gb_goal.specs.Answers.{Answer}
 use Rattle.gb_goal.specs.Answers.Answer.{given, refused}
 use Rattle.gb_goal.specs.Goal.{Goal}
@@ -60,7 +60,7 @@ use Rattle.gb_adversaries.proofs.Signatures.{type_variables}
 use Rattle.gb_adversaries.proofs.There.{abstract_there}
 use Rattle.gb_prog.specs.Writes.{AreIn, TypedVariable, variables}
 use Rattle.gb_prog.proofs.Couplings.{runs_sequence}
-use Rattle.gb_parts.proofs.AssignedForms.{in_both}
+use Rattle.gb_prog.proofs.AssignedForms.{in_both}
 use Rattle.gb_call.specs.Call.{if_few, unless_clash}
 use Rattle.gb_call.specs.LastCall.{last_call}
 use Rattle.gb_call.specs.Outcomes.{clashing_after, is_left, is_read, reads_result}

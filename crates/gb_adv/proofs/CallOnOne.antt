@@ -7,8 +7,8 @@ use Rattle.gb_core.specs.declared.ty.Ty.{Ty}
 use Rattle.gb_core.specs.declared.value.Value.{Value}
 use Rattle.gb_core.specs.declared.var.Var.{Var}
 use Rattle.gb_core.specs.declared.var.Var.TheVariants as var
-use Rattle.gb_coupling.specs.WeightedList.{WeightedList, Every}
-use Rattle.gb_coupling.proofs.Entries.{Every-bind, Every-dmap, Every-weaken}
+use Rattle.gb_dist.specs.WeightedList.{WeightedList, Every}
+use Rattle.gb_dist.proofs.Entries.{Every-bind, Every-dmap, Every-weaken}
 use Rattle.gb_terms.specs.declared.decl.TypedName.{TypedName}
 use Rattle.gb_terms.specs.declared.module.ProcRef.{ProcRef}
 use Rattle.gb_terms.specs.declared.op.Rel.TheVariants.{AtLeast}
@@ -26,7 +26,7 @@ use Rattle.gb_meaning.specs.Setting.{Setting}
 use Rattle.gb_meaning.specs.State.{State, at}
 use Rattle.gb_laws.specs.Finite.{IsFinite}
 use Rattle.gb_laws.specs.Programs.{Take}
-use Rattle.gb_holds.specs.Declared.{declared}
+use Rattle.gb_meaning.specs.Declared.{declared}
 use Rattle.gb_goal.specs.declared.sequent.Sequent.{Sequent}
 use Rattle.gb_goal.specs.Answers.Answer.{given}
 use Rattle.gb_goal.specs.Goal.{Goal}
@@ -54,7 +54,7 @@ use Rattle.gb_typing.proofs.Variables.{variable_finite}
 use Rattle.gb_adversaries.proofs.KeptOff.{kept_off}
 use Rattle.gb_adversaries.proofs.Meanings.{means_there}
 use Rattle.gb_prog.specs.Writes.{DifferIn, TypedVariable, AreIn, variables}
-use Rattle.gb_parts.proofs.Likely.{FollowsAt}
+use Rattle.gb_prog.proofs.Likely.{FollowsAt}
 use Rattle.gb_call.specs.Call.{unless_clash}
 use Rattle.gb_call.specs.LastCall.{LastCall, last_call}
 use Rattle.gb_call.specs.Outcomes.{Outcome, after_call, after_where, clash_after, is_among, is_read, reads_result}
@@ -66,7 +66,7 @@ use Rattle.gb_call.proofs.LastCalls.{IsCalled}
 use Rattle.gb_call.proofs.Unwritten.{procedure_left}
 use Rattle.gb_adv.specs.Abstract.{AbstractCall, AbstractProcedure, abstract_call}
 use Rattle.gb_adv.specs.Call.{before_call, by_written, on_one, one_goals, outcome, read_after}
-use Rattle.gb_abstract.specs.Kept.{IsKeeping}
+use Rattle.gb_adversaries.specs.Kept.{IsKeeping}
 use Rattle.gb_adv.specs.Oracles.{each_keeps, meeting}
 use Rattle.gb_adv.proofs.AskedTypes.{asked_alike}
 use Rattle.gb_adv.proofs.Called.{each_outcome, knows}
@@ -74,7 +74,7 @@ use Rattle.gb_adv.proofs.Called as called
 use Rattle.gb_adv.proofs.Found.{IsFound, IsFoundCall, call_found}
 use Rattle.gb_adv.proofs.KeptForms.{over_locals}
 use Rattle.gb_adv.proofs.KeptOracles.{each_kept}
-use Rattle.gb_abstract.proofs.Kept.{abstract_kept}
+use Rattle.gb_adversaries.proofs.Kept.{abstract_kept}
 use Rattle.gb_adversaries.proofs.Meanings.{both_mean}
 use Rattle.gb_adversaries.proofs.Signatures.{type_variables}
 use Rattle.gb_adv.proofs.Left.{none_meets}

@@ -3,9 +3,9 @@ use Rattle.std.proofs.Common.{◌≡◌, true, List, [], ◌∷◌, map, Some, N
 use Rattle.std.proofs.Math.Nat.{mul-one}
 use Rattle.gb_core.specs.declared.value.Value.{Value}
 use Rattle.gb_core.specs.declared.var.Var.{Var}
-use Rattle.gb_coupling.specs.WeightedList.{Every, dmap}
-use Rattle.gb_coupling.proofs.Entries.{Every-weaken}
-use Rattle.gb_coupling.proofs.Monad.{bind-unit_right}
+use Rattle.gb_dist.specs.WeightedList.{Every, dmap}
+use Rattle.gb_dist.proofs.Entries.{Every-weaken}
+use Rattle.gb_dist.proofs.Monad.{bind-unit_right}
 use Rattle.gb_terms.specs.declared.decl.TypedName.{TypedName}
 use Rattle.gb_terms.specs.declared.module.ProcRef.{ProcRef}
 use Rattle.gb_terms.specs.declared.term.Instr.{Instr}
@@ -24,7 +24,7 @@ use Rattle.gb_meaning.specs.Values.{has}
 use Rattle.gb_laws.specs.Cells.Key.{global}
 use Rattle.gb_laws.specs.Programs.{Take}
 use Rattle.gb_laws.specs.Writes.{Spares, UnwrittenBy}
-use Rattle.gb_holds.specs.Declared.{declared}
+use Rattle.gb_meaning.specs.Declared.{declared}
 use Rattle.gb_typing.specs.Context.{Context, erased}
 use Rattle.gb_typing.specs.Context as context
 use Rattle.gb_typing.specs.Fits.{IsOfType, IsSettingOf}
@@ -37,7 +37,7 @@ use Rattle.gb_typing.specs.Typing.{IsThere}
 use Rattle.gb_typing.proofs.DeclaredProcedures.{known_is}
 use Rattle.gb_typing.proofs.Declaring.{in_goal}
 use Rattle.gb_prog.specs.Writes.{DifferIn}
-use Rattle.gb_open.proofs.Judged.{IsFramed, framed, read_result}
+use Rattle.gb_adversaries.proofs.Judged.{IsFramed, framed, read_result}
 use Rattle.gb_call.specs.LastCall.{LastCall, last_call}
 use Rattle.gb_call.proofs.Callees.{IsResult, every_both, every_differs}
 use Rattle.gb_call.proofs.LastCalls.{IsCalled, called_typed}

@@ -1,8 +1,8 @@
 -- Judgments of oracles on one program: each keeps the property of globals that a form says.
 use Rattle.std.proofs.Common.{◌≡◌, true, List, [], ◌∷◌, Some, None, sym, ◌∙◌, subst}
 use Rattle.std.specs.List.{AllByRecursion}
-use Rattle.gb_coupling.specs.WeightedList.{Every}
-use Rattle.gb_coupling.proofs.Entries.{Every-weaken}
+use Rattle.gb_dist.specs.WeightedList.{Every}
+use Rattle.gb_dist.proofs.Entries.{Every-weaken}
 use Rattle.gb_terms.specs.declared.module.ProcRef.{ProcRef}
 use Rattle.gb_terms.specs.declared.term.Term.{Term}
 use Rattle.gb_goal.specs.Interfaces.{ProcedureType, procedure_type}
@@ -16,8 +16,8 @@ use Rattle.gb_typing.specs.Fits.{IsSettingOf}
 use Rattle.gb_typing.specs.Meaning.{Stands}
 use Rattle.gb_typing.specs.Rules.{outermost}
 use Rattle.gb_typing.specs.Typing.{IsForm}
-use Rattle.gb_open.specs.Judged.{IsJudgedToKeep}
-use Rattle.gb_abstract.specs.Kept.{IsKeeping, IsThere}
+use Rattle.gb_adversaries.specs.Judged.{IsJudgedToKeep}
+use Rattle.gb_adversaries.specs.Kept.{IsKeeping, IsThere}
 use Rattle.gb_adv.specs.Oracles.{each_keeps, keeps}
 use Rattle.gb_adv.proofs.KeptPairs.{oracle_there}
 use Rattle.gb_adv.proofs.OracleGoals.{IsKnownType}

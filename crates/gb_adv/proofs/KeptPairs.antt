@@ -1,8 +1,8 @@
 -- Judgments of pairs of oracles: each pair keeps the relation of globals that a form says.
 use Rattle.std.proofs.Common.{◌≡◌, true, List, [], Some, None, ap, sym, ◌∙◌, subst}
 use Rattle.gb_core.specs.declared.var.Var.TheVariants as var
-use Rattle.gb_coupling.specs.Coupling.{Coupling}
-use Rattle.gb_coupling.proofs.Basic.{coupling_weakening}
+use Rattle.gb_dist.specs.Coupling.{Coupling}
+use Rattle.gb_dist.proofs.Basic.{coupling_weakening}
 use Rattle.gb_terms.specs.declared.module.ProcRef.{ProcRef}
 use Rattle.gb_terms.specs.declared.term.Term.{Term}
 use Rattle.gb_goal.specs.Interfaces.{ProcedureType, procedure_type}
@@ -24,9 +24,9 @@ use Rattle.gb_typing.specs.Rules.{outermost}
 use Rattle.gb_typing.specs.Scopes.{HaveOwnNames}
 use Rattle.gb_typing.specs.Typing.{IsForm}
 use Rattle.gb_typing.proofs.Forms.{and_use}
-use Rattle.gb_open.specs.Coupled.{Leaves}
-use Rattle.gb_open.specs.Judged.{AreJudgedAlike}
-use Rattle.gb_abstract.specs.Kept.{AreKeeping, IsThere}
+use Rattle.gb_adversaries.specs.Coupled.{Leaves}
+use Rattle.gb_adversaries.specs.Judged.{AreJudgedAlike}
+use Rattle.gb_adversaries.specs.Kept.{AreKeeping, IsThere}
 use Rattle.gb_adv.specs.Equations.{led_by, same_params, same_result}
 use Rattle.gb_adv.specs.Oracles.{keep_both}
 use Rattle.gb_adv.proofs.Agreed.{held_in, led_make, params_make, same_is}

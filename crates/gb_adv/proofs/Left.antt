@@ -20,8 +20,8 @@ use Rattle.gb_meaning.specs.Values.{Global}
 use Rattle.gb_laws.specs.Cells.{Key}
 use Rattle.gb_laws.specs.Cells.Key.{global, local}
 use Rattle.gb_laws.specs.Writes.{IfGlobal, IsNone, Spares, UnwrittenBy, key_of_global, keys_of}
-use Rattle.gb_holds.specs.Declared.{declared}
-use Rattle.gb_holds.specs.Footprints.{stands_for}
+use Rattle.gb_meaning.specs.Declared.{declared}
+use Rattle.gb_meaning.specs.Footprints.{stands_for}
 use Rattle.gb_typing.specs.Forms.{IsKeptOff}
 use Rattle.gb_typing.specs.Puts.{share}
 use Rattle.gb_typing.specs.Rules.{IsSettingOver}
@@ -40,7 +40,7 @@ use Rattle.gb_adversaries.proofs.Meanings.{means_there}
 use Rattle.gb_adversaries.proofs.Writing.{writes_of_any}
 use Rattle.gb_call.proofs.Conditions.{AllFalse, nothing_filtered, nothing_least}
 use Rattle.gb_call.proofs.Unwritten.{reached_left}
-use Rattle.gb_open.specs.Coupled.{Leaves}
+use Rattle.gb_adversaries.specs.Coupled.{Leaves}
 use Rattle.gb_adv.specs.Oracles.{meeting, meeting_both, writes_of}
 
 -- Where none is found to clash, none clashes.

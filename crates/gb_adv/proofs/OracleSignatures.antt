@@ -9,7 +9,7 @@ use Rattle.gb_goal.specs.Scope.{Declarations, module_type_of}
 use Rattle.gb_goal.specs.Interfaces.{params_in, signatures_of}
 use Rattle.gb_meaning.specs.Names.{Name}
 use Rattle.gb_laws.specs.Finite.{IsVariableType}
-use Rattle.gb_holds.specs.Declared.{MayCall, ModuleType, Signature, declared, every, those, signature_in}
+use Rattle.gb_meaning.specs.Declared.{MayCall, ModuleType, Signature, declared, every, those, signature_in}
 use Rattle.gb_typing.specs.Formulas.{IsKnown, oracle_in}
 use Rattle.gb_typing.specs.Modules.{Modules, of_functor_type, functor_type}
 use Rattle.gb_typing.specs.Programs.{HaveVariableTypes}

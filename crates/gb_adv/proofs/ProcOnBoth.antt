@@ -8,8 +8,8 @@ use Rattle.gb_core.proofs.SameTypes.{ty_eq-Decides}
 use Rattle.gb_core.specs.declared.ty.Ty.TheVariants as ty
 use Rattle.gb_core.specs.declared.var.Var.{Var}
 use Rattle.gb_core.specs.declared.var.Var.TheVariants as var
-use Rattle.gb_coupling.specs.Coupling.{Coupling}
-use Rattle.gb_coupling.proofs.Basic.{coupling_weakening}
+use Rattle.gb_dist.specs.Coupling.{Coupling}
+use Rattle.gb_dist.proofs.Basic.{coupling_weakening}
 use Rattle.gb_terms.specs.declared.decl.TypedName.{TypedName}
 use Rattle.gb_terms.specs.declared.module.ProcRef.{ProcRef}
 use Rattle.gb_terms.specs.declared.term.Term.{Term}
@@ -19,7 +19,7 @@ use Rattle.gb_meaning.specs.Program.{Routine}
 use Rattle.gb_meaning.specs.Runs.{outcomes, parameter_values, routine_denominator}
 use Rattle.gb_meaning.specs.Setting.{Setting}
 use Rattle.gb_meaning.specs.State.{State, between}
-use Rattle.gb_holds.specs.Declared.{declared}
+use Rattle.gb_meaning.specs.Declared.{declared}
 use Rattle.gb_goal.specs.declared.sequent.Sequent.{Sequent}
 use Rattle.gb_goal.specs.Answers.Answer.{given}
 use Rattle.gb_goal.specs.Goal.{Goal}

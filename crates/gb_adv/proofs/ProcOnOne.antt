@@ -3,8 +3,8 @@ use Rattle.std.proofs.Common.{◌≡◌, Bool, true, List, [], ◌∷◌, Option
 use Rattle.std.specs.List.{AllByRecursion}
 use Rattle.gb_core.specs.declared.refusal.Why.TheVariants.{Shape, SideCondition}
 use Rattle.gb_core.specs.declared.var.Var.{Var}
-use Rattle.gb_coupling.specs.WeightedList.{Every}
-use Rattle.gb_coupling.proofs.Entries.{Every-weaken}
+use Rattle.gb_dist.specs.WeightedList.{Every}
+use Rattle.gb_dist.proofs.Entries.{Every-weaken}
 use Rattle.gb_terms.specs.declared.decl.TypedName.{TypedName}
 use Rattle.gb_terms.specs.declared.module.ProcRef.{ProcRef}
 use Rattle.gb_terms.specs.declared.op.Side.TheVariants.{Own}
@@ -17,7 +17,7 @@ use Rattle.gb_meaning.specs.Program.{Routine}
 use Rattle.gb_meaning.specs.Runs.{parameter_values}
 use Rattle.gb_meaning.specs.Setting.{Setting}
 use Rattle.gb_meaning.specs.State.{State, at}
-use Rattle.gb_holds.specs.Declared.{declared}
+use Rattle.gb_meaning.specs.Declared.{declared}
 use Rattle.gb_goal.specs.declared.sequent.Sequent.{Sequent}
 use Rattle.gb_goal.specs.Answers.Answer.{given}
 use Rattle.gb_goal.specs.Goal.{Goal}
@@ -44,7 +44,7 @@ use Rattle.gb_bodies.specs.Conseq.{leads}
 use Rattle.gb_call.specs.Call.{unless_clash}
 use Rattle.gb_call.proofs.After.{all_append}
 use Rattle.gb_adv.specs.Abstract.{AbstractProcedure, abstract_procedure}
-use Rattle.gb_abstract.specs.Kept.{IsKeeping}
+use Rattle.gb_adversaries.specs.Kept.{IsKeeping}
 use Rattle.gb_adv.specs.Oracles.{each_keeps, meeting}
 use Rattle.gb_adv.specs.Proc.{on_one, one_goals}
 use Rattle.gb_adv.proofs.AskedTypes.{asked_alike}
@@ -52,7 +52,7 @@ use Rattle.gb_adv.proofs.Called.{knows}
 use Rattle.gb_adv.proofs.Found.{IsFound, procedure_found}
 use Rattle.gb_adv.proofs.KeptForms.{over_locals}
 use Rattle.gb_adv.proofs.KeptOracles.{each_kept}
-use Rattle.gb_abstract.proofs.Kept.{abstract_kept}
+use Rattle.gb_adversaries.proofs.Kept.{abstract_kept}
 use Rattle.gb_adversaries.proofs.Meanings.{both_mean}
 use Rattle.gb_adv.proofs.Left.{none_meets}
 use Rattle.gb_adv.proofs.OracleGoals.{IsKnownType, all_parts, each_keeps_typed, first_known}

@@ -16,7 +16,7 @@ use Rattle.gb_meaning.specs.Setting.{Setting}
 use Rattle.gb_laws.specs.Written.{IsSide}
 use Rattle.gb_typing.specs.Forms.{IsAlone, IsKeptOff}
 use Rattle.gb_prog.specs.Writes.{IsApart, IsOneOf, TypedVariable, variables}
-use Rattle.gb_parts.proofs.AssignedForms.{EachAlone}
+use Rattle.gb_prog.proofs.AssignedForms.{EachAlone}
 use Rattle.gb_call.specs.Outcomes.{is_among, is_left, is_read}
 use Rattle.gb_call.proofs.AfterMeans.{IsOneIn}
 use Rattle.gb_call.proofs.Conditions.{AllFalse, IsSpared, globals_alone, left_alone, said_alone, said_read, unread_after, unread_said, with_result, without_result}

@@ -10,7 +10,7 @@ use gb_core::place::Place;
 use gb_core::refusal::Refused;
 use gb_goal::scope::Scope;
 use gb_goal::sequent::{Sequent, Sequents};
-use gb_parts::subgoals::placed;
+use gb_prog::subgoals::placed;
 use gb_steps::step::AbstractRule;
 use std::alloc::Global;
 

@@ -35,7 +35,7 @@ use gb_mods::exclusions::exclusions;
 use gb_mods::meant::meant_by;
 use gb_mods::order::{all_of, with_variables};
 use gb_mods::procedures::proc_writes;
-use gb_parts::subgoals::{no_shape, one_goal, refusal, shared_body};
+use gb_prog::subgoals::{no_shape, one_goal, refusal, shared_body};
 use gb_terms::make::conjunction;
 use gb_terms::op::{Rel, Side};
 use gb_terms::term::Form;

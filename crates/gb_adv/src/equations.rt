@@ -11,7 +11,7 @@ use gb_core::copy::copy_var;
 use gb_core::name::Name;
 use gb_core::ty::Ty;
 use gb_core::var::Var;
-use gb_parts::forms::located;
+use gb_prog::forms::located;
 use gb_terms::decl::TypedName;
 use gb_terms::make::{conjunction, equality, program, variable};
 use gb_terms::op::Side;

@@ -19,7 +19,7 @@ use gb_goal::scope::Scope;
 use gb_goal::sequent::{Sequent, Sequents};
 use gb_mods::exclusions::exclusions;
 use gb_mods::meant::meant_by;
-use gb_parts::subgoals::{no_shape, refusal, two_goals};
+use gb_prog::subgoals::{no_shape, refusal, two_goals};
 use gb_terms::make::conjunction;
 use gb_terms::module::ProcRef;
 use gb_terms::term::Form;

@@ -16,11 +16,11 @@ use Rattle.gb_goal.specs.Scope.{entry_of}
 use Rattle.gb_meaning.specs.Names.{Name}
 use Rattle.gb_meaning.specs.Setting.{Setting}
 use Rattle.gb_meaning.specs.Values.{Global}
-use Rattle.gb_holds.specs.Declared.{declared}
-use Rattle.gb_holds.specs.Footprints.{is_global, stands_for}
-use Rattle.gb_holds.specs.Holds.{declared_modules}
-use Rattle.gb_holds.specs.Settings.{Chosen, Interpretation, declared_globals, globals_from, is_chosen, program_footprint, setting}
-use Rattle.gb_holds.specs.Within.{AreApart, own_globals as declared_by}
+use Rattle.gb_meaning.specs.Declared.{declared}
+use Rattle.gb_meaning.specs.Footprints.{is_global, stands_for}
+use Rattle.gb_meaning.specs.Holds.{declared_modules}
+use Rattle.gb_meaning.specs.Settings.{Chosen, Interpretation, declared_globals, globals_from, is_chosen, program_footprint, setting}
+use Rattle.gb_meaning.specs.Within.{AreApart, own_globals as declared_by}
 use Rattle.gb_typing.specs.Chosen.{AreChosen, AreUnchosen, IsChosenIf, IsChosenOver, KeepsApart, chosen_under}
 use Rattle.gb_typing.specs.Forms.{IsKeptOff}
 use Rattle.gb_typing.specs.Rules.{IsSettingOver}

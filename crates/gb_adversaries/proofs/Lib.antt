@@ -1,3 +1,12 @@
+pub mod Places
+pub mod Expressions
+pub mod Related
+pub mod Pairs
+pub mod Answering
+pub mod Runs
+pub mod KeptRuns
+pub mod Judged
+pub mod Kept
 pub mod Carried
 pub mod Oracles
 pub mod Signatures

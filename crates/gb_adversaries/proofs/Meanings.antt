@@ -9,8 +9,8 @@ use Rattle.gb_goal.specs.Interfaces.{ProcedureType, procedure_type}
 use Rattle.gb_goal.specs.Scope.{Declarations, abstract_of, procedure_of}
 use Rattle.gb_meaning.specs.Names.{Name}
 use Rattle.gb_meaning.specs.Setting.{Setting}
-use Rattle.gb_holds.specs.Declared.{declared}
-use Rattle.gb_holds.specs.Settings.{Interpretation, setting}
+use Rattle.gb_meaning.specs.Declared.{declared}
+use Rattle.gb_meaning.specs.Settings.{Interpretation, setting}
 use Rattle.gb_typing.specs.Chosen.{IsChosenOver}
 use Rattle.gb_typing.specs.Rules.{IsSettingOver}
 use Rattle.gb_typing.specs.Scopes.{IsTypedScope}

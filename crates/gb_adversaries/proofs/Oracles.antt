@@ -14,10 +14,10 @@ use Rattle.gb_goal.specs.Interfaces.{Interface, ProcedureType, fits, found as pr
 use Rattle.gb_goal.specs.Scope as scope
 use Rattle.gb_meaning.specs.Names.{Name}
 use Rattle.gb_meaning.specs.Program.{Routine, Oracle}
-use Rattle.gb_holds.specs.Adversary.{as_asked, callable, may_call, or_none, oracle_eq, oracle_signature, type_named}
-use Rattle.gb_holds.specs.Declared.{ModuleType, Signature, MayCall, every, those, declared, module_type_of, signature_in}
-use Rattle.gb_holds.specs.Linking.{oracle_of}
-use Rattle.gb_holds.specs.Modules.{Functor, Modules, found, module_at, modules_at, procedure_at}
+use Rattle.gb_meaning.specs.Adversary.{as_asked, callable, may_call, or_none, oracle_eq, oracle_signature, type_named}
+use Rattle.gb_meaning.specs.Declared.{ModuleType, Signature, MayCall, every, those, declared, module_type_of, signature_in}
+use Rattle.gb_meaning.specs.Linking.{oracle_of}
+use Rattle.gb_meaning.specs.Modules.{Functor, Modules, found, module_at, modules_at, procedure_at}
 use Rattle.gb_typing.proofs.DeclaredTypes.{declared_type}
 use Rattle.gb_mods.specs.Asked.{all_oracles, asked_for, asked_of, oracles_in, oracles_named}
 use Rattle.gb_mods.proofs.Closed.{IsIn}

@@ -23,9 +23,9 @@ use Rattle.gb_meaning.specs.Values.{Global}
 use Rattle.gb_laws.specs.Cells.{Cell, Cells, Covers, cells_of, global_cell}
 use Rattle.gb_laws.specs.Cells.Key.{local}
 use Rattle.gb_laws.specs.Reads.{leaf_cells, program_cells, routine_cells, row_cells, term_cells, terms_cells}
-use Rattle.gb_holds.specs.Declared.{Signature}
-use Rattle.gb_holds.specs.Linking.{Oracles, answered, link, link_routine}
-use Rattle.gb_holds.specs.Typing.{AreArguments, AreExpressions, FitsSignature, IsDistributionOver, IsExpression, IsProgramHead, IsTyped, IsTypedRoutine, Names, global_type, type_of}
+use Rattle.gb_meaning.specs.Declared.{Signature}
+use Rattle.gb_meaning.specs.Linking.{Oracles, answered, link, link_routine}
+use Rattle.gb_meaning.specs.Typing.{AreArguments, AreExpressions, FitsSignature, IsDistributionOver, IsExpression, IsProgramHead, IsTyped, IsTypedRoutine, Names, global_type, type_of}
 use Rattle.gb_mods.proofs.Closed.{IsIn}
 use Rattle.gb_adversaries.specs.AnyOf.{IfOneOf, IsAnyOf, IsOneOf}
 use Rattle.gb_adversaries.specs.Carried.{EachCarried, EachCarriedBy}

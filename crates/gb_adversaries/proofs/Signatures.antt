@@ -9,7 +9,7 @@ use Rattle.gb_goal.specs.Scope as scope
 use Rattle.gb_goal.specs.Scope.{as_abstract, entry_of}
 use Rattle.gb_meaning.specs.Names.{Name}
 use Rattle.gb_laws.specs.Finite.{IsVariableType}
-use Rattle.gb_holds.specs.Declared.{Signature, declared}
+use Rattle.gb_meaning.specs.Declared.{Signature, declared}
 use Rattle.gb_typing.specs.Modules.{Modules}
 use Rattle.gb_typing.specs.Programs.{HaveVariableTypes}
 use Rattle.gb_typing.specs.Scopes.{AreSignatures, IsTypedScope}

@@ -8,11 +8,11 @@ use Rattle.gb_meaning.specs.Names.{Name}
 use Rattle.gb_meaning.specs.Program.{Routine}
 use Rattle.gb_meaning.specs.Setting.{Setting}
 use Rattle.gb_meaning.specs.Sound.{FullRoutine}
-use Rattle.gb_holds.specs.Adversary.{Adversary, callable}
-use Rattle.gb_holds.specs.Declared.{Declarations, ModuleType, Signature}
-use Rattle.gb_holds.specs.Modules.{found}
-use Rattle.gb_holds.specs.Programs.{AreFull, HasProcedures, IfThere, IsProcedureFor}
-use Rattle.gb_holds.specs.Typing.{IsTypedRoutine}
+use Rattle.gb_meaning.specs.Adversary.{Adversary, callable}
+use Rattle.gb_meaning.specs.Declared.{Declarations, ModuleType, Signature}
+use Rattle.gb_meaning.specs.Modules.{found}
+use Rattle.gb_meaning.specs.Programs.{AreFull, HasProcedures, IfThere, IsProcedureFor}
+use Rattle.gb_meaning.specs.Typing.{IsTypedRoutine}
 use Rattle.gb_mods.specs.Asked.{signature_of}
 
 turned : (n k : Name) (b : Bool) → bytes_eq n k ≡ b → bytes_eq k n ≡ b

@@ -17,15 +17,15 @@ use Rattle.gb_goal.specs.Scope.{abstract_of, as_abstract, entry_of, procedure_of
 use Rattle.gb_meaning.specs.Names.{Name}
 use Rattle.gb_meaning.specs.Program.{Routine, Oracle}
 use Rattle.gb_meaning.specs.Setting.{Setting}
-use Rattle.gb_holds.specs.Adversary.{callable, or_none, type_named, with_oracles}
-use Rattle.gb_holds.specs.Declared.{Declarations, ModuleType, Signature, declared}
-use Rattle.gb_holds.specs.Holds.{declared_modules}
-use Rattle.gb_holds.specs.Linking.{linked_procedure, link_routine}
-use Rattle.gb_holds.specs.Modules.{Modules, found, modules_of, no_module}
-use Rattle.gb_holds.specs.Programs.{AreFull, HasProcedures}
-use Rattle.gb_holds.specs.Settings.{Chosen, Interpretation, bare, linked_modules, setting, types_of, with_abstract_programs, with_operators}
-use Rattle.gb_holds.specs.Typing.{IsTypedRoutine}
-use Rattle.gb_holds.proofs.EachProgram.{found-each_linked}
+use Rattle.gb_meaning.specs.Adversary.{callable, or_none, type_named, with_oracles}
+use Rattle.gb_meaning.specs.Declared.{Declarations, ModuleType, Signature, declared}
+use Rattle.gb_meaning.specs.Holds.{declared_modules}
+use Rattle.gb_meaning.specs.Linking.{linked_procedure, link_routine}
+use Rattle.gb_meaning.specs.Modules.{Modules, found, modules_of, no_module}
+use Rattle.gb_meaning.specs.Programs.{AreFull, HasProcedures}
+use Rattle.gb_meaning.specs.Settings.{Chosen, Interpretation, bare, linked_modules, setting, types_of, with_abstract_programs, with_operators}
+use Rattle.gb_meaning.specs.Typing.{IsTypedRoutine}
+use Rattle.gb_meaning.proofs.EachProgram.{found-each_linked}
 use Rattle.gb_typing.specs.Chosen.{AreChosen, IsChosenIf, IsChosenOver, IsProgramOf, chosen_under}
 use Rattle.gb_typing.specs.Scopes.{IsTypedScope}
 use Rattle.gb_typing.proofs.AbstractModules.{abstract_in_scope}

@@ -12,9 +12,9 @@ use Rattle.gb_meaning.specs.Program.Routine.{routine}
 use Rattle.gb_meaning.specs.Setting.{Setting}
 use Rattle.gb_meaning.specs.Sound.{Full, FullRoutine}
 use Rattle.gb_meaning.specs.Values.{Global}
-use Rattle.gb_holds.specs.Declared.{Signature}
-use Rattle.gb_holds.specs.Linking.{Oracles, answered, link, link_routine}
-use Rattle.gb_holds.specs.Typing.{FitsSignature, IsTyped, IsTypedRoutine, Names}
+use Rattle.gb_meaning.specs.Declared.{Signature}
+use Rattle.gb_meaning.specs.Linking.{Oracles, answered, link, link_routine}
+use Rattle.gb_meaning.specs.Typing.{FitsSignature, IsTyped, IsTypedRoutine, Names}
 use Rattle.gb_mods.proofs.Closed.{IsIn}
 use Rattle.gb_adversaries.specs.AnyOf.{IsAnyOf}
 

@@ -19,9 +19,9 @@ use Rattle.gb_meaning.specs.Values.{Global}
 use Rattle.gb_laws.specs.Cells.{Key}
 use Rattle.gb_laws.specs.Cells.Key.{global, local}
 use Rattle.gb_laws.specs.Writes.{IfGlobal, IsNone, Spares, Unwritten, UnwrittenBy, key_of_global, keys_of}
-use Rattle.gb_holds.specs.Declared.{Signature}
-use Rattle.gb_holds.specs.Linking.{Oracles, answered, link, link_routine}
-use Rattle.gb_holds.specs.Typing.{FitsSignature, IsDistributionOver, IsTyped, IsTypedRoutine, Names, Takes, global_type, type_of, types_of, with_type}
+use Rattle.gb_meaning.specs.Declared.{Signature}
+use Rattle.gb_meaning.specs.Linking.{Oracles, answered, link, link_routine}
+use Rattle.gb_meaning.specs.Typing.{FitsSignature, IsDistributionOver, IsTyped, IsTypedRoutine, Names, Takes, global_type, type_of, types_of, with_type}
 use Rattle.gb_mods.proofs.Closed.{IsIn}
 use Rattle.gb_adversaries.specs.AnyOf.{IfOneOf, IsAnyOf, IsOneOf}
 use Rattle.gb_adversaries.specs.Carried.{EachCarried, EachCarriedBy}

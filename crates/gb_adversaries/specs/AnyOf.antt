@@ -6,9 +6,9 @@ use Rattle.gb_meaning.specs.Names.{Name}
 use Rattle.gb_meaning.specs.Program.{Routine, Oracle}
 use Rattle.gb_meaning.specs.Setting.{Setting}
 use Rattle.gb_meaning.specs.Sound.{FullRoutine}
-use Rattle.gb_holds.specs.Declared.{Signature}
-use Rattle.gb_holds.specs.Linking.{Oracles, link_routine}
-use Rattle.gb_holds.specs.Typing.{IsTypedRoutine}
+use Rattle.gb_meaning.specs.Declared.{Signature}
+use Rattle.gb_meaning.specs.Linking.{Oracles, link_routine}
+use Rattle.gb_meaning.specs.Typing.{IsTypedRoutine}
 use Rattle.gb_mods.proofs.Closed.{IsIn}
 
 -- one of these references means the procedure

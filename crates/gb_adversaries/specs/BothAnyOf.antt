@@ -7,9 +7,9 @@ use Rattle.gb_goal.specs.Scope.{Declarations}
 use Rattle.gb_meaning.specs.Names.{Name}
 use Rattle.gb_meaning.specs.Program.{Routine, Oracle}
 use Rattle.gb_meaning.specs.Setting.{Setting}
-use Rattle.gb_holds.specs.Declared.{Signature}
-use Rattle.gb_holds.specs.Linking.{Oracles, link_routine}
-use Rattle.gb_holds.specs.Typing.{IsTypedRoutine}
+use Rattle.gb_meaning.specs.Declared.{Signature}
+use Rattle.gb_meaning.specs.Linking.{Oracles, link_routine}
+use Rattle.gb_meaning.specs.Typing.{IsTypedRoutine}
 
 -- both stand at the same place of two lists
 abbrev pub IsPairIn : List ProcRef → List ProcRef → ProcRef → ProcRef → Type 0

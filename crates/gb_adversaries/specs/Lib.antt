@@ -1,3 +1,7 @@
+pub mod Coupled
+pub mod KeptProperty
+pub mod Judged
+pub mod Kept
 pub mod AnyOf
 pub mod BothAnyOf
 pub mod Carried

@@ -7,10 +7,10 @@ use Rattle.gb_goal.specs.declared.sequent.Hyp.{Hyp}
 use Rattle.gb_goal.specs.declared.sequent.Sequent.{Sequent}
 use Rattle.gb_meaning.specs.Memory.{Memory}
 use Rattle.gb_meaning.specs.State.{State}
-use Rattle.gb_holds.specs.Declared.{Declarations}
-use Rattle.gb_holds.specs.Settings.{Interpretation, setting, types_of}
-use Rattle.gb_holds.specs.Truth.{Truth}
-use Rattle.gb_holds.specs.Holds.{AreValues, context, AreTrue, declared_modules, interpretation, Holds}
+use Rattle.gb_meaning.specs.Declared.{Declarations}
+use Rattle.gb_meaning.specs.Settings.{Interpretation, setting, types_of}
+use Rattle.gb_meaning.specs.Truth.{Truth}
+use Rattle.gb_meaning.specs.Holds.{AreValues, context, AreTrue, declared_modules, interpretation, Holds}
 use Rattle.gb_typing.specs.Context.{Context}
 use Rattle.gb_typing.specs.Typing.{IsForm}
 use Rattle.gb_typing.specs.Fits.{IsSettingOf, IsStateOf}

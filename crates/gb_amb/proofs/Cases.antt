@@ -19,10 +19,10 @@ use Rattle.gb_meaning.proofs.Truths.{true_implies}
 use Rattle.gb_laws.proofs.Fair.{is_fair}
 use Rattle.gb_laws.proofs.Unique.{true_under_each}
 use Rattle.gb_laws.proofs.Trees.{out_is}
-use Rattle.gb_holds.specs.Declared.{Declarations}
-use Rattle.gb_holds.specs.Settings.{Interpretation, setting}
-use Rattle.gb_holds.specs.Truth.{Choice, has_module, last_has_module, Truth}
-use Rattle.gb_holds.proofs.Fronts.{without_modules}
+use Rattle.gb_meaning.specs.Declared.{Declarations}
+use Rattle.gb_meaning.specs.Settings.{Interpretation, setting}
+use Rattle.gb_meaning.specs.Truth.{Choice, has_module, last_has_module, Truth}
+use Rattle.gb_meaning.proofs.Fronts.{without_modules}
 use Rattle.gb_meaning.specs.Written.{type_of}
 use Rattle.gb_laws.specs.Typing.{types_of, IsHead}
 use Rattle.gb_typing.specs.Context.{Context, erased}

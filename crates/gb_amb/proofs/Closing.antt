@@ -24,11 +24,11 @@ use Rattle.gb_meaning.proofs.SameTerms.{same_terms}
 use Rattle.gb_laws.proofs.Exact.{trying}
 use Rattle.gb_laws.proofs.Fair.{is_fair}
 use Rattle.gb_meaning.proofs.Truths.{truth_of}
-use Rattle.gb_holds.specs.Declared.{Declarations}
-use Rattle.gb_holds.specs.Settings.{Interpretation, setting}
-use Rattle.gb_holds.specs.Truth.{Choice, has_module, Truth}
-use Rattle.gb_holds.specs.Holds.{Holds}
-use Rattle.gb_holds.proofs.Fronts.{without_modules}
+use Rattle.gb_meaning.specs.Declared.{Declarations}
+use Rattle.gb_meaning.specs.Settings.{Interpretation, setting}
+use Rattle.gb_meaning.specs.Truth.{Choice, has_module, Truth}
+use Rattle.gb_meaning.specs.Holds.{Holds}
+use Rattle.gb_meaning.proofs.Fronts.{without_modules}
 use Rattle.gb_typing.specs.Context.{Context}
 use Rattle.gb_typing.specs.Typing.{IsForm}
 use Rattle.gb_typing.specs.Sequents.{IsTypedSequent}

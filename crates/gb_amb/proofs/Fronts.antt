@@ -12,7 +12,7 @@ use Rattle.gb_terms.specs.declared.term.Head.TheOpen as layer
 use Rattle.gb_terms.specs.declared.term.Head.TheFolds.{fold_out-Term, fold-roll-Head}
 use Rattle.gb_meaning.specs.Commands.{terms_in}
 use Rattle.gb_laws.proofs.Trees.{out_is}
-use Rattle.gb_holds.specs.Truth.{has_module, last_has_module}
+use Rattle.gb_meaning.specs.Truth.{has_module, last_has_module}
 use Rattle.gb_amb.specs.Quantified.{is_module_quantifier, at_head, at_instr, at_subject, at_cmd, at_term, quantifies_modules}
 use mathlib.Core.Former.{Count}
 

@@ -23,12 +23,12 @@ use Rattle.gb_meaning.specs.Written.{type_of}
 use Rattle.gb_meaning.specs.Judgments.{Judge, IsFair, IsTrueIn, den}
 use Rattle.gb_meaning.specs.Values.{Types, has}
 use Rattle.gb_meaning.proofs.Truths.{true_all, true_all_memory}
-use Rattle.gb_holds.specs.Declared.{Declarations}
-use Rattle.gb_holds.specs.Settings.{Interpretation, setting, types_of}
-use Rattle.gb_holds.specs.Truth.{has_module, Truth}
-use Rattle.gb_holds.specs.Holds.{AreValues, context, AreTrue, Holds}
-use Rattle.gb_holds.proofs.Fronts.{without_modules}
-use Rattle.gb_holds.proofs.SettingTypes.{setting-types}
+use Rattle.gb_meaning.specs.Declared.{Declarations}
+use Rattle.gb_meaning.specs.Settings.{Interpretation, setting, types_of}
+use Rattle.gb_meaning.specs.Truth.{has_module, Truth}
+use Rattle.gb_meaning.specs.Holds.{AreValues, context, AreTrue, Holds}
+use Rattle.gb_meaning.proofs.Fronts.{without_modules}
+use Rattle.gb_meaning.proofs.SettingTypes.{setting-types}
 use Rattle.gb_laws.specs.Finite.{IsFinite}
 use Rattle.gb_laws.specs.Programs.{HaveFiniteTypes}
 use Rattle.gb_laws.specs.Typing.Binder.{value, memory}

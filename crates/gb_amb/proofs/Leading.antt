@@ -26,11 +26,11 @@ use Rattle.gb_steps.specs.declared.step.AmbientRule.{AmbientRule}
 use Rattle.gb_steps.specs.declared.step.AmbientRule.TheVariants.{Discard}
 use Rattle.gb_meaning.specs.State.{State}
 use Rattle.gb_meaning.specs.Judgments.{Judge, IsFair, IsTrueUnder}
-use Rattle.gb_holds.specs.Declared.{Declarations}
-use Rattle.gb_holds.specs.Settings.{Interpretation, setting}
-use Rattle.gb_holds.specs.Truth.{has_module, Truth}
-use Rattle.gb_holds.specs.Holds.{AreTrue}
-use Rattle.gb_holds.proofs.Fronts.{without_modules}
+use Rattle.gb_meaning.specs.Declared.{Declarations}
+use Rattle.gb_meaning.specs.Settings.{Interpretation, setting}
+use Rattle.gb_meaning.specs.Truth.{has_module, Truth}
+use Rattle.gb_meaning.specs.Holds.{AreTrue}
+use Rattle.gb_meaning.proofs.Fronts.{without_modules}
 use Rattle.gb_typing.specs.Context.{Context}
 use Rattle.gb_typing.specs.Typing.{IsForm}
 use Rattle.gb_typing.specs.Sequents.{IsConclusion, IsTypedSequent}

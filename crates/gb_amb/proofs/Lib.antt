@@ -1,3 +1,13 @@
+pub mod Anywhere
+pub mod EachMemory
+pub mod EachValue
+pub mod Binders
+pub mod Foralls
+pub mod ForallMemories
+pub mod Instances
+pub mod UsedPremises
+pub mod Shapes
+pub mod UseIsSound
 pub mod Layers
 pub mod Fronts
 pub mod Idle

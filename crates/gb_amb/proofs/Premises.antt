@@ -30,10 +30,10 @@ use Rattle.gb_laws.proofs.Unique.{true_under_each}
 use Rattle.gb_laws.specs.Agree.{Agree}
 use Rattle.gb_laws.specs.Uses.Use.{read as reads, bound, globals, starts, binds_own, binds_sides}
 use Rattle.gb_laws.proofs.Agreeing.{form_agrees}
-use Rattle.gb_holds.specs.Declared.{Declarations}
-use Rattle.gb_holds.specs.Settings.{Interpretation, setting}
-use Rattle.gb_holds.specs.Truth.{has_module, Truth}
-use Rattle.gb_holds.proofs.Fronts.{without_modules}
+use Rattle.gb_meaning.specs.Declared.{Declarations}
+use Rattle.gb_meaning.specs.Settings.{Interpretation, setting}
+use Rattle.gb_meaning.specs.Truth.{has_module, Truth}
+use Rattle.gb_meaning.proofs.Fronts.{without_modules}
 use Rattle.gb_laws.specs.Typing.Binder.{value, memory}
 use Rattle.gb_typing.specs.Context.{Context, Frame, within}
 use Rattle.gb_typing.specs.Typing.{IsForm}

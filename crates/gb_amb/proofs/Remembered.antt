@@ -22,9 +22,9 @@ use Rattle.gb_laws.specs.Led.{Led}
 use Rattle.gb_laws.specs.Uses.Use.{read as reads, bound, globals, starts, binds_own, binds_sides}
 use Rattle.gb_laws.proofs.Forms.{form_followed}
 use Rattle.gb_meaning.proofs.Truths.{true_some_memory}
-use Rattle.gb_holds.specs.Declared.{Declarations}
-use Rattle.gb_holds.specs.Settings.{setting}
-use Rattle.gb_holds.proofs.Fronts.{without_modules}
+use Rattle.gb_meaning.specs.Declared.{Declarations}
+use Rattle.gb_meaning.specs.Settings.{setting}
+use Rattle.gb_meaning.proofs.Fronts.{without_modules}
 use Rattle.gb_goal.specs.Goal.Goal.{ambient}
 use Rattle.gb_laws.specs.Typing.Binder.{memory}
 use Rattle.gb_typing.specs.Context.{Context, Frame, within}

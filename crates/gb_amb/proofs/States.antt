@@ -33,7 +33,7 @@ use Rattle.gb_laws.specs.Uses.Use.{read as reads, bound, globals, starts, binds_
 use Rattle.gb_laws.proofs.Agreeing.{form_agrees}
 use Rattle.gb_laws.proofs.Forms.{form_followed}
 use Rattle.gb_laws.proofs.Puts.{plain_node}
-use Rattle.gb_holds.specs.Holds.{context}
+use Rattle.gb_meaning.specs.Holds.{context}
 use Rattle.gb_laws.specs.Typing.Binder.{value, memory}
 use Rattle.gb_typing.specs.Context.{Context, Frame, within}
 use Rattle.gb_typing.specs.Typing.{IsTyped, IsForm}

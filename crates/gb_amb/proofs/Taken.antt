@@ -27,7 +27,7 @@ use Rattle.gb_meaning.specs.Judgments.{Judge, den, IsTrueUnder, speaking}
 use Rattle.gb_meaning.proofs.Nodes.{each_is_node, val_node}
 use Rattle.gb_meaning.proofs.Truths.{true_or, true_iff, truth_of}
 use Rattle.gb_laws.proofs.Trees.{out_is}
-use Rattle.gb_holds.specs.Truth.{Choice, has_module, last_has_module}
+use Rattle.gb_meaning.specs.Truth.{Choice, has_module, last_has_module}
 use Rattle.gb_laws.specs.Typing.{types_of, IsHead}
 use Rattle.gb_laws.proofs.Nodes.{type_of_node}
 use Rattle.gb_typing.specs.Context.{Context, erased}

@@ -20,9 +20,9 @@ use Rattle.gb_meaning.specs.Written.{type_of}
 use Rattle.gb_meaning.specs.Judgments.{Judge, IsFair, speaking, den}
 use Rattle.gb_meaning.proofs.Truths.{true_some}
 use Rattle.gb_laws.specs.Led.{put}
-use Rattle.gb_holds.specs.Declared.{Declarations}
-use Rattle.gb_holds.specs.Settings.{setting}
-use Rattle.gb_holds.proofs.Fronts.{without_modules}
+use Rattle.gb_meaning.specs.Declared.{Declarations}
+use Rattle.gb_meaning.specs.Settings.{setting}
+use Rattle.gb_meaning.proofs.Fronts.{without_modules}
 use Rattle.gb_laws.specs.Finite.{IsFinite}
 use Rattle.gb_laws.specs.Typing.{IsBoundAt, IsSide}
 use Rattle.gb_laws.specs.Typing.Binder.{value}

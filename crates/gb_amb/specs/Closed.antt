@@ -8,7 +8,7 @@ use Rattle.gb_terms.specs.Make.{truth_literal}
 use Rattle.gb_terms.specs.Nodes.{term_nodes}
 use Rattle.gb_goal.specs.declared.sequent.Hyp.{Hyp}
 use Rattle.gb_goal.specs.declared.sequent.Sequent.{Sequent}
-use Rattle.gb_holds.specs.Truth.{Choice}
+use Rattle.gb_meaning.specs.Truth.{Choice}
 use Rattle.gb_amb.specs.Quantified.{goal_quantifies_modules}
 use Rattle.gb_amb.specs.Introduced.{with_premise, with_variable, with_memory}
 use Rattle.gb_amb.specs.Parts.{concluding}

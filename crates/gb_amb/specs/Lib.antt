@@ -1,3 +1,6 @@
+pub mod Instances
+pub mod Lemmas
+pub mod Uses
 pub mod Closed
 pub mod Introduced
 pub mod Parts

@@ -6,7 +6,7 @@ ghost use Rattle.gb_goal.specs.Answers.{Answer};
 ghost use Rattle.gb_goal.specs.Answers.Answer.{given};
 ghost use Rattle.gb_goal.specs.declared.sequent.Sequent.{Sequent};
 ghost use Rattle.gb_steps.specs.declared.step.AmbientRule.{AmbientRule};
-ghost use Rattle.gb_holds.specs.Declared.{Declarations};
+ghost use Rattle.gb_meaning.specs.Declared.{Declarations};
 ghost use Rattle.gb_typing.specs.Sequents.{of_sequent, IsTypedSequent};
 ghost use Rattle.gb_typing.specs.Scopes.{context_of, IsTypedScope};
 ghost use Rattle.gb_amb.specs.Steps.{IsAnswer, IsTypedStep, LeadTo};

@@ -1,4 +1,4 @@
-//! Rules on conclusions of every kind and the hypotheses around them.
+//! Rules on conclusions of every kind and the hypotheses around them; `apply` and `have` with a hypothesis or a lemma.
 #![tactic(auto)]
 
 pub mod apply;
@@ -9,4 +9,6 @@ pub mod introduced;
 pub mod laws;
 pub mod parts;
 pub mod quantified;
+pub mod using;
+pub mod using_laws;
 pub mod witness;

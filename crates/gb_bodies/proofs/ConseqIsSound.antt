@@ -7,9 +7,9 @@ use Rattle.gb_terms.specs.declared.op.Rel.{Rel}
 use Rattle.gb_terms.specs.declared.op.Rel.TheVariants.{AtMost, Equal, AtLeast}
 use Rattle.gb_terms.specs.declared.op.Side.TheVariants.{Own}
 use Rattle.gb_terms.specs.declared.term.Term.{Term}
-use Rattle.gb_coupling.specs.WeightedList.{weight}
-use Rattle.gb_coupling.proofs.Basic.{coupling_weakening}
-use Rattle.gb_coupling.proofs.Entries.{Every-weaken}
+use Rattle.gb_dist.specs.WeightedList.{weight}
+use Rattle.gb_dist.proofs.Basic.{coupling_weakening}
+use Rattle.gb_dist.proofs.Entries.{Every-weaken}
 use Rattle.gb_meaning.specs.Commands.{statements}
 use Rattle.gb_meaning.specs.Fractions.{Fraction}
 use Rattle.gb_meaning.specs.Meanings.{fraction_in}
@@ -39,12 +39,12 @@ use Rattle.gb_typing.specs.Goals.{IsCode, IsGoalOver, IsTypedGoal, frame_before,
 use Rattle.gb_typing.proofs.Ambient.{one_typed, one_meaning, pair_typed, pair_meaning}
 use Rattle.gb_typing.proofs.Forms.{implies_typed, implies_use}
 use Rattle.gb_typing.proofs.Given.{AreSound, refused_given, sound_given}
-use Rattle.gb_parts.specs.Compared.{compared}
-use Rattle.gb_parts.proofs.Bound.{bound_value, bound_above}
-use Rattle.gb_parts.proofs.Comparing.{real_made, compared_typed, compared_is}
-use Rattle.gb_parts.proofs.Weaker.{Follows, event_follows, bound_follows}
-use Rattle.gb_parts.specs.Likely.{as_likely}
-use Rattle.gb_parts.proofs.Likely.{as_likely_typed, likely_at}
+use Rattle.gb_prog.specs.Compared.{compared}
+use Rattle.gb_prog.proofs.Bound.{bound_value, bound_above}
+use Rattle.gb_prog.proofs.Comparing.{real_made, compared_typed, compared_is}
+use Rattle.gb_prog.proofs.Weaker.{Follows, event_follows, bound_follows}
+use Rattle.gb_prog.specs.Likely.{as_likely}
+use Rattle.gb_prog.proofs.Likely.{as_likely_typed, likely_at}
 use Rattle.gb_bodies.specs.Conseq.{or_old, leads, pair_leads, bound_goals, of_one, of_two, of_chance, unless_bound, conseq_row, IsCondition, IsBound, IsTypedWeakened}
 
 condition_typed : (c : Context) (o : Option Term) (f : Term) → IsCondition c o → IsForm c f → IsForm c (or_old o f)

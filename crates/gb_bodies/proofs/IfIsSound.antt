@@ -14,11 +14,11 @@ use Rattle.gb_terms.specs.declared.term.Head.TheVariants.{If}
 use Rattle.gb_terms.specs.declared.term.Subject.{Subject}
 use Rattle.gb_terms.specs.declared.term.Instr.{Instr, out-Instr}
 use Rattle.gb_terms.specs.declared.term.Cmd.{Cmd}
-use Rattle.gb_coupling.specs.WeightedList.{WeightedList, Every, scale}
-use Rattle.gb_coupling.specs.Coupling.{Coupling}
-use Rattle.gb_coupling.proofs.Basic.{coupling_rescaling}
-use Rattle.gb_coupling.proofs.Entries.{Every-scale}
-use Rattle.gb_coupling.proofs.Monad.{scale-one}
+use Rattle.gb_dist.specs.WeightedList.{WeightedList, Every, scale}
+use Rattle.gb_dist.specs.Coupling.{Coupling}
+use Rattle.gb_dist.proofs.Basic.{coupling_rescaling}
+use Rattle.gb_dist.proofs.Entries.{Every-scale}
+use Rattle.gb_dist.proofs.Monad.{scale-one}
 use Rattle.gb_meaning.specs.Memory.{Memory}
 use Rattle.gb_meaning.specs.Setting.{Setting}
 use Rattle.gb_meaning.specs.Setting.Meaning.{finite}

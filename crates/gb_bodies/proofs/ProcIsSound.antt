@@ -4,11 +4,11 @@ use Rattle.std.specs.List.{AllByRecursion}
 use Rattle.std.specs.Option.{option_zip}
 use Rattle.gb_core.specs.declared.refusal.Why.TheVariants.{Shape}
 use Rattle.gb_core.specs.declared.ty.Ty.TheVariants as ty
-use Rattle.gb_coupling.specs.WeightedList.{weight, bit, Every}
-use Rattle.gb_coupling.specs.Coupling.{Coupling}
-use Rattle.gb_coupling.proofs.Basic.{coupling_dmap}
-use Rattle.gb_coupling.proofs.Entries.{Every-dmap}
-use Rattle.gb_coupling.proofs.Masses.{mass-dmap, mass-same}
+use Rattle.gb_dist.specs.WeightedList.{weight, bit, Every}
+use Rattle.gb_dist.specs.Coupling.{Coupling}
+use Rattle.gb_dist.proofs.Basic.{coupling_dmap}
+use Rattle.gb_dist.proofs.Entries.{Every-dmap}
+use Rattle.gb_dist.proofs.Masses.{mass-dmap, mass-same}
 use Rattle.gb_terms.specs.declared.decl.Proc.{Proc}
 use Rattle.gb_terms.specs.declared.module.ProcRef.{ProcRef}
 use Rattle.gb_terms.specs.declared.op.Rel.{Rel}
@@ -23,7 +23,7 @@ use Rattle.gb_meaning.specs.Judgments.{IsTrueUnder, speaking, den, compares}
 use Rattle.gb_meaning.specs.Meanings.{fraction_in}
 use Rattle.gb_meaning.specs.Terms.{val}
 use Rattle.gb_meaning.specs.Written.{type_of}
-use Rattle.gb_holds.specs.Declared.{declared}
+use Rattle.gb_meaning.specs.Declared.{declared}
 use Rattle.gb_goal.specs.declared.sequent.Sequent.{Sequent}
 use Rattle.gb_goal.specs.Scope.{Declarations, procedure_of}
 use Rattle.gb_goal.specs.Goal.{Goal}

@@ -5,13 +5,13 @@ use Rattle.gb_steps.specs.declared.step.BodyRule.TheVariants as on_bodies
 use Rattle.gb_steps.specs.declared.step.Rule.{Rule}
 use Rattle.gb_steps.specs.declared.step.Rule.TheVariants.{OnBodies, Relational, Ambient, Smt, Linear, Chance, Probability, Call, CallKnown, Abstract, Rewrite, Transform, Use, While}
 use Rattle.gb_goal.specs.Scope.{Declarations}
-use Rattle.gb_holds.specs.Declared.{declared}
+use Rattle.gb_meaning.specs.Declared.{declared}
 use Rattle.gb_typing.specs.Scopes.{context_of, IsTypedScope}
 use Rattle.gb_typing.specs.Sequents.{of_sequent, IsTypedSequent}
 use Rattle.gb_typing.specs.Context.{Context}
 use Rattle.gb_goal.specs.Goal.{Goal}
 use Rattle.gb_goal.specs.Rows.{Row}
-use Rattle.gb_holds.specs.Declared as holds
+use Rattle.gb_meaning.specs.Declared as holds
 use Rattle.gb_typing.specs.Rules.{IsSoundAt, IsSoundIn, IsSoundRuleIn}
 use Rattle.gb_typing.proofs.Given.{refused_given}
 use Rattle.gb_bodies.specs.Case.{case_row}

@@ -4,10 +4,10 @@ use Rattle.std.proofs.lemmas.List.{take-append-drop}
 use Rattle.gb_core.specs.declared.refusal.Why.TheVariants.{Shape, Argument}
 use Rattle.gb_terms.specs.declared.term.Term.{Term}
 use Rattle.gb_terms.specs.declared.term.Instr.{Instr}
-use Rattle.gb_coupling.specs.WeightedList.{Every, bind}
-use Rattle.gb_coupling.specs.Coupling.{Coupling}
-use Rattle.gb_coupling.proofs.Entries.{Every-bind}
-use Rattle.gb_coupling.proofs.Sequence.{coupling_sequence}
+use Rattle.gb_dist.specs.WeightedList.{Every, bind}
+use Rattle.gb_dist.specs.Coupling.{Coupling}
+use Rattle.gb_dist.proofs.Entries.{Every-bind}
+use Rattle.gb_dist.proofs.Sequence.{coupling_sequence}
 use Rattle.gb_meaning.specs.Memory.{Memory}
 use Rattle.gb_meaning.specs.Setting.{Setting}
 use Rattle.gb_meaning.specs.State.{State, at, between}

@@ -1,8 +1,8 @@
 -- `skip` is sound.
 use Rattle.std.proofs.Common.{[], ◌∷◌, Some, refl, arith}
 use Rattle.gb_core.specs.declared.refusal.Why.TheVariants.{Shape}
-use Rattle.gb_coupling.specs.WeightedList.{unit}
-use Rattle.gb_coupling.specs.Coupling.{Coupling}
+use Rattle.gb_dist.specs.WeightedList.{unit}
+use Rattle.gb_dist.specs.Coupling.{Coupling}
 use Rattle.gb_meaning.specs.Memory.{Memory}
 use Rattle.gb_meaning.specs.State.{at, between}
 use Rattle.gb_meaning.specs.Judgments.{IsTrueUnder}
@@ -15,9 +15,9 @@ use Rattle.gb_typing.specs.Rules.{IsSoundRule, no_arguments}
 use Rattle.gb_typing.proofs.Ambient.{one_typed, one_meaning, pair_typed, pair_meaning}
 use Rattle.gb_typing.proofs.Forms.{implies_typed, implies_use}
 use Rattle.gb_typing.proofs.Given.{refused_given, sound_given}
-use Rattle.gb_parts.specs.Compared.{certain_or_not}
-use Rattle.gb_parts.proofs.Bound.{bound_made, met}
-use Rattle.gb_parts.proofs.Comparing.{certain_typed}
+use Rattle.gb_prog.specs.Compared.{certain_or_not}
+use Rattle.gb_prog.proofs.Bound.{bound_made, met}
+use Rattle.gb_prog.proofs.Comparing.{certain_typed}
 use Rattle.gb_bodies.specs.Skip.{skip_row}
 
 single : (Q : Memory → Memory → Type 0) (m n : Memory) → Q m n → Coupling Q (unit m) 1 (unit n) 1

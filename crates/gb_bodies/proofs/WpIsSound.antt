@@ -13,12 +13,12 @@ use Rattle.gb_terms.specs.declared.op.Side.TheVariants as side
 use Rattle.gb_terms.specs.declared.term.Term.{Term}
 use Rattle.gb_terms.specs.declared.term.Instr.{Instr, Row_of-Instr, end_of-Instr, more_of-Instr}
 use Rattle.gb_terms.specs.declared.term.Head.TheVariants.{Assign, Sample, Call', If', While'}
-use Rattle.gb_coupling.specs.WeightedList.{WeightedList, Every, bind, dmap, unit, weight, bit}
-use Rattle.gb_coupling.specs.Coupling.{Coupling}
-use Rattle.gb_coupling.proofs.Basic.{coupling_dmap}
-use Rattle.gb_coupling.proofs.Entries.{Every-dmap}
-use Rattle.gb_coupling.proofs.Masses.{mass-dmap}
-use Rattle.gb_coupling.proofs.Monad.{bind-unit_right, dmap_by_bind}
+use Rattle.gb_dist.specs.WeightedList.{WeightedList, Every, bind, dmap, unit, weight, bit}
+use Rattle.gb_dist.specs.Coupling.{Coupling}
+use Rattle.gb_dist.proofs.Basic.{coupling_dmap}
+use Rattle.gb_dist.proofs.Entries.{Every-dmap}
+use Rattle.gb_dist.proofs.Masses.{mass-dmap}
+use Rattle.gb_dist.proofs.Monad.{bind-unit_right, dmap_by_bind}
 use Rattle.gb_steps.specs.declared.step.Acts.{Acts}
 use Rattle.gb_steps.specs.declared.step.Acts.TheVariants as on
 use Rattle.gb_goal.specs.Answers.{Answer, ◌>>=◌}
@@ -41,7 +41,7 @@ use Rattle.gb_meaning.specs.Written.{type_of}
 use Rattle.gb_meaning.proofs.Truths.{true_and, true_implies, true_not}
 use Rattle.gb_laws.specs.Written.{with_side, IsSide}
 use Rattle.gb_walk.specs.Clash.{Exclusions}
-use Rattle.gb_holds.specs.Declared.{declared}
+use Rattle.gb_meaning.specs.Declared.{declared}
 use Rattle.gb_typing.specs.Context.{Context, Frame, frame_of, reframed}
 use Rattle.gb_typing.specs.Typing.{IsForm}
 use Rattle.gb_typing.specs.Programs.{IsExpression, IsStatement, AreStatements, EachStatement}
@@ -60,11 +60,11 @@ use Rattle.gb_mods.specs.Exclusions.{exclusions}
 use Rattle.gb_adversaries.proofs.KeptOff.{kept_off}
 use Rattle.gb_prog.specs.Straight.{IsStraight, RowIsStraight, AreStraight, ended, after}
 use Rattle.gb_prog.proofs.Straight.{ended_then, straight_run, straight_denominator}
-use Rattle.gb_parts.specs.Assigned.{assigned_form, clashing}
-use Rattle.gb_parts.specs.OneBody.{OneBody}
+use Rattle.gb_prog.specs.Assigned.{assigned_form, clashing}
+use Rattle.gb_prog.specs.OneBody.{OneBody}
 use Rattle.gb_bodies.specs.Wp.{is_straight, row_is_straight, are_straight, unless_clash, before, before_row, before_all, with_front, staying, front, ending, wp_row}
 use Rattle.gb_forms.specs.Branches.{by_test}
-use Rattle.gb_parts.proofs.AssignedForms.{assigned_typed, assigned_meaning, put_read, put_twice}
+use Rattle.gb_prog.proofs.AssignedForms.{assigned_typed, assigned_meaning, put_read, put_twice}
 use mathlib.Core.Former.{Count}
 
 -- what is given after a step is given by the step and what follows

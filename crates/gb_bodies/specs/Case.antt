@@ -14,7 +14,7 @@ use Rattle.gb_typing.specs.Context.{Context}
 use Rattle.gb_typing.specs.Sequents.{one, two}
 use Rattle.gb_typing.specs.Typing.{IsForm}
 use Rattle.gb_typing.specs.Forms.{and_form, not_form}
-use Rattle.gb_parts.specs.OneBody.{OneBody, one_body, on_one}
+use Rattle.gb_prog.specs.OneBody.{OneBody, one_body, on_one}
 
 -- a goal as one of its bodies sees it, with the form beside its precondition, and with the negation
 abbrev pub case_one : Term → OneBody → Answer (List Goal)

@@ -17,8 +17,8 @@ use Rattle.gb_typing.specs.Context.{Context, with_own, with_sides}
 use Rattle.gb_typing.specs.Typing.{IsTyped, IsForm}
 use Rattle.gb_typing.specs.Forms.{every, every_pair, implies_form}
 use Rattle.gb_typing.specs.Goals.{frame_before, frame_after}
-use Rattle.gb_parts.specs.Compared.{compared}
-use Rattle.gb_parts.specs.Likely.{as_likely}
+use Rattle.gb_prog.specs.Compared.{compared}
+use Rattle.gb_prog.specs.Likely.{as_likely}
 
 -- what is said anew, or else what stood there
 abbrev pub or_old : Option Term → Term → Term

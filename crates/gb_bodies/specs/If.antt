@@ -19,7 +19,7 @@ use Rattle.gb_goal.specs.Rows.{Row, refusing}
 use Rattle.gb_steps.specs.declared.step.Acts.{Acts}
 use Rattle.gb_steps.specs.declared.step.Acts.TheVariants as on
 use Rattle.gb_goal.specs.Answers.Answer.{given}
-use Rattle.gb_parts.specs.OneBody.{one_body, on_one}
+use Rattle.gb_prog.specs.OneBody.{one_body, on_one}
 use Rattle.gb_bodies.specs.declared.branch.Branch as seen
 
 -- a branch, and what follows it

@@ -6,7 +6,7 @@ use Rattle.gb_terms.specs.declared.op.Side.TheVariants.{Own}
 use Rattle.gb_goal.specs.Goal.Code.{body}
 use Rattle.gb_goal.specs.Goal.Goal.{hoare, phoare, equiv, ambient}
 use Rattle.gb_typing.specs.Forms.{implies_form, every, every_pair}
-use Rattle.gb_parts.specs.Compared.{certain_or_not}
+use Rattle.gb_prog.specs.Compared.{certain_or_not}
 use Rattle.gb_goal.specs.Rows.{Row, refusing}
 use Rattle.gb_goal.specs.Answers.Answer.{given}
 

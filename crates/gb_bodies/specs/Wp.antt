@@ -17,8 +17,8 @@ use Rattle.gb_goal.specs.Goal.Goal.{equiv}
 use Rattle.gb_goal.specs.Rows.{Row, refusing}
 use Rattle.gb_typing.specs.Forms.{located}
 use Rattle.gb_forms.specs.Branches.{by_test}
-use Rattle.gb_parts.specs.Assigned.{assigned_form, clashing}
-use Rattle.gb_parts.specs.OneBody.{OneBody, one_body, on_one}
+use Rattle.gb_prog.specs.Assigned.{assigned_form, clashing}
+use Rattle.gb_prog.specs.OneBody.{OneBody, one_body, on_one}
 use Rattle.gb_walk.specs.Clash.{Exclusions}
 use Rattle.gb_mods.specs.Exclusions.{exclusions}
 use Rattle.gb_goal.specs.Scope.{Declarations}

@@ -14,7 +14,7 @@ use crate::wp::wp;
 use gb_core::refusal::Refused;
 use gb_goal::scope::Scope;
 use gb_goal::sequent::{Sequent, Sequents};
-use gb_parts::subgoals::{no_shape, placed};
+use gb_prog::subgoals::{no_shape, placed};
 use gb_steps::step::{BodyRule, Rule, Step};
 use std::alloc::Global;
 

@@ -10,13 +10,13 @@ ghost use Rattle.gb_goal.specs.Rows.{answered, each_concluding};
 ghost use Rattle.gb_typing.specs.Forms.{and_form, not_form};
 ghost use Rattle.gb_typing.specs.Rules.{IsSoundRule};
 ghost use Rattle.gb_bodies.specs.Case.{case_one, case_row, IsTypedCase};
-ghost use Rattle.gb_parts.specs.OneBody.{filled, one_seen};
+ghost use Rattle.gb_prog.specs.OneBody.{filled, one_seen};
 
 use gb_core::refusal::Refused;
 use gb_goal::goal::goal_of;
 use gb_goal::sequent::{Sequent, Sequents};
-use gb_parts::one_body::{OneBody, filled, one_body};
-use gb_parts::subgoals::{no_shape, shared_body, two_goals};
+use gb_prog::one_body::{OneBody, filled, one_body};
+use gb_prog::subgoals::{no_shape, shared_body, two_goals};
 use gb_steps::step::Acts;
 use gb_terms::make::{conjunction, negation};
 use gb_terms::term::Form;

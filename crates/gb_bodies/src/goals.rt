@@ -8,8 +8,8 @@ ghost use Rattle.gb_bodies.specs.Conseq.{leads, pair_leads};
 
 use gb_goal::goal::equiv;
 use gb_goal::sequent::{Sequent, Sequents};
-use gb_parts::forms::{every, every_pair, implied};
-use gb_parts::subgoals::{shared_body, two_goals};
+use gb_prog::forms::{every, every_pair, implied};
+use gb_prog::subgoals::{shared_body, two_goals};
 use gb_terms::op::Side;
 use gb_terms::term::{Form, Instr};
 use std::alloc::{AllocError, Global};

@@ -1,7 +1,7 @@
 //! The rule `proc`.
 
 ghost use Rattle.std.specs.Prelude.{◌≡◌, ◌∷◌, [], IfOk};
-ghost use Rattle.gb_holds.specs.Declared.{declared};
+ghost use Rattle.gb_meaning.specs.Declared.{declared};
 ghost use Rattle.gb_typing.specs.Scopes.{context_of, IsTypedScope};
 ghost use Rattle.gb_typing.specs.Sequents.{of_sequent, IsTypedSequent};
 ghost use Rattle.gb_goal.specs.declared.sequent.Sequent.{Sequent as TypedSequent};
@@ -22,8 +22,8 @@ use gb_core::var::Var;
 use gb_goal::goal::{Code, Goal, equiv, goal_of, hoare, phoare};
 use gb_goal::scope::Scope;
 use gb_goal::sequent::{Sequent, Sequents};
-use gb_parts::forms::located;
-use gb_parts::subgoals::{no_shape, one_goal};
+use gb_prog::forms::located;
+use gb_prog::subgoals::{no_shape, one_goal};
 use gb_terms::decl::Proc;
 use gb_terms::op::{Read, Rel, Side};
 use gb_terms::term::{Form, RealTerm};

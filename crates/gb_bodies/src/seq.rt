@@ -17,7 +17,7 @@ use gb_core::refusal::{Refused, Why};
 use gb_forms::cuts::{Parts, cut_bodies};
 use gb_goal::goal::{Code, Goal, goal_of, hoare};
 use gb_goal::sequent::{Sequent, Sequents};
-use gb_parts::subgoals::{no_shape, refusal, shared_body, two_goals};
+use gb_prog::subgoals::{no_shape, refusal, shared_body, two_goals};
 use gb_steps::step::Cut;
 use gb_terms::term::{Form, Instr};
 use std::alloc::{AllocError, Global};

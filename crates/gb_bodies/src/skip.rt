@@ -1,7 +1,7 @@
 //! The rule `skip`.
 
 ghost use Rattle.std.specs.Prelude.{◌≡◌, IfOk};
-ghost use Rattle.gb_parts.specs.Compared.{certain_or_not};
+ghost use Rattle.gb_prog.specs.Compared.{certain_or_not};
 ghost use Rattle.gb_typing.specs.Context.{Context};
 ghost use Rattle.gb_typing.specs.Forms.{every, implies_form};
 ghost use Rattle.gb_goal.specs.Answers.{Answers};
@@ -13,9 +13,9 @@ use crate::goals::{leads, pair_leads};
 use gb_core::refusal::Refused;
 use gb_goal::goal::{Code, Goal, goal_of};
 use gb_goal::sequent::{Sequent, Sequents};
-use gb_parts::compared::certain_or_not;
-use gb_parts::forms::every;
-use gb_parts::subgoals::{no_shape, one_goal};
+use gb_prog::compared::certain_or_not;
+use gb_prog::forms::every;
+use gb_prog::subgoals::{no_shape, one_goal};
 use gb_terms::make::implication;
 use gb_terms::op::{Rel, Side};
 use gb_terms::term::{Form, RealTerm};

@@ -57,10 +57,10 @@ use Rattle.gb_typing.proofs.Spared.{Clear}
 use Rattle.gb_prog.specs.AllValues.{Located, in_memory, for_all, to_bound_values, AreLocated}
 use Rattle.gb_prog.specs.Writes.{TypedVariable, AreIn, IsOneOf}
 use Rattle.gb_prog.proofs.AllValues.{pushed, pushed_here, binder_of, no_frame, bound_term, bound_plain, bound_writes, writes_are, for_all_typed, all_puts}
-use Rattle.gb_parts.specs.Assigned.{put_in, taken}
-use Rattle.gb_parts.specs.Likely.{as_likely}
-use Rattle.gb_parts.proofs.Likely.{as_likely_typed}
-use Rattle.gb_parts.proofs.AssignedForms.{changes_are, writes}
+use Rattle.gb_prog.specs.Assigned.{put_in, taken}
+use Rattle.gb_prog.specs.Likely.{as_likely}
+use Rattle.gb_prog.proofs.Likely.{as_likely_typed}
+use Rattle.gb_prog.proofs.AssignedForms.{changes_are, writes}
 use Rattle.gb_call.proofs.LeftSides.{are_for, left_puts}
 use Rattle.gb_call.proofs.Replaced.{ArePlaced, Replaces, own_here, own_variables, replaced_typed}
 

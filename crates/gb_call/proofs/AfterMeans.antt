@@ -46,17 +46,17 @@ use Rattle.gb_typing.proofs.Fitting.{fits_reframed}
 use Rattle.gb_typing.proofs.Scripts.{none_some}
 use Rattle.gb_typing.specs.Forms.{IsAlone}
 use Rattle.gb_typing.specs.Rules.{outermost}
-use Rattle.gb_parts.specs.Likely.{as_likely}
-use Rattle.gb_parts.proofs.Likely.{FollowsAt, likely_at}
+use Rattle.gb_prog.specs.Likely.{as_likely}
+use Rattle.gb_prog.proofs.Likely.{FollowsAt, likely_at}
 use Rattle.gb_typing.proofs.Quantified.{meaning_inside}
 use Rattle.gb_prog.specs.AllValues.{Located, in_memory, for_all, to_bound_values, AreLocated, AreAlone}
 use Rattle.gb_prog.specs.Writes.{DifferIn, IsApart, IsOneOf, TypedVariable, overwritten, AreIn}
 use Rattle.gb_prog.proofs.AllValues.{pushed, pushed_here, binder_of, no_frame, binding_of, bound_writes, writes_are, fit_pushed, all_true, all_writes, have_types, written_in}
 use Rattle.gb_prog.proofs.Frames.{frame_read, reads_as}
 use Rattle.gb_prog.proofs.Writes.{apart_read}
-use Rattle.gb_parts.specs.Assigned.{put_in, taken}
-use Rattle.gb_parts.proofs.AssignedForms.{changes_are, writes}
-use Rattle.gb_parts.proofs.Parts.{as_many, same_length}
+use Rattle.gb_prog.specs.Assigned.{put_in, taken}
+use Rattle.gb_prog.proofs.AssignedForms.{changes_are, writes}
+use Rattle.gb_prog.proofs.Parts.{as_many, same_length}
 use Rattle.gb_call.proofs.After.{all_append, written_both, same_form, result_frame, res, over, X, Y, result, bound_around, result_there, located, after_located, is_result}
 use Rattle.gb_call.proofs.LeftSides.{AreFor, are_for, left_writes, left_ends, left_values, value_here}
 

@@ -6,9 +6,9 @@ use Rattle.gb_core.specs.declared.refusal.Why.TheVariants.{NotLossless, Shape, S
 use Rattle.gb_core.specs.declared.value.Value.{Value}
 use Rattle.gb_core.specs.declared.var.Var.{Var}
 use Rattle.gb_core.specs.declared.var.Var.TheVariants as var
-use Rattle.gb_coupling.specs.WeightedList.{WeightedList, Every, bind, bit, dmap}
-use Rattle.gb_coupling.proofs.Entries.{Every-bind, Every-dmap, Every-weaken}
-use Rattle.gb_coupling.proofs.Masses.{mass-dmap}
+use Rattle.gb_dist.specs.WeightedList.{WeightedList, Every, bind, bit, dmap}
+use Rattle.gb_dist.proofs.Entries.{Every-bind, Every-dmap, Every-weaken}
+use Rattle.gb_dist.proofs.Masses.{mass-dmap}
 use Rattle.gb_terms.specs.declared.decl.Proc.{Proc}
 use Rattle.gb_terms.specs.declared.decl.TypedName.{TypedName}
 use Rattle.gb_terms.specs.declared.op.Rel.{Rel}
@@ -34,7 +34,7 @@ use Rattle.gb_meaning.proofs.Runs.{routine_positive, run_positive}
 use Rattle.gb_meaning.proofs.Totals.{run_bounded}
 use Rattle.gb_laws.specs.Finite.{IsFinite}
 use Rattle.gb_laws.specs.Programs.{Take}
-use Rattle.gb_holds.specs.Declared.{declared}
+use Rattle.gb_meaning.specs.Declared.{declared}
 use Rattle.gb_goal.specs.declared.sequent.Sequent.{Sequent}
 use Rattle.gb_goal.specs.Answers.Answer.{given}
 use Rattle.gb_goal.specs.Goal.{Goal}
@@ -66,13 +66,13 @@ use Rattle.gb_typing.proofs.Spared.{Clear}
 use Rattle.gb_prog.specs.Calls.{called_from}
 use Rattle.gb_prog.specs.Writes.{DifferIn, TypedVariable, AreIn, variables}
 use Rattle.gb_call.specs.Call.{Callee, before_call, by_globals, chances_by_globals, chances_of_callee, in_front, call_goals, call_row, callee as callee_if, callee_of, left_of, of_callee, on_programs, outcome as outcome_of, unless_clash, IsContract, IsTypedContract}
-use Rattle.gb_parts.specs.Compared.{compared, zero}
+use Rattle.gb_prog.specs.Compared.{compared, zero}
 use Rattle.gb_full.specs.Loss.{Loss, nowhere, sampled, called as lost_in_call, first_loss}
-use Rattle.gb_parts.proofs.Bound.{bound_value}
-use Rattle.gb_parts.proofs.Chances.{after_full, after_less}
-use Rattle.gb_parts.proofs.Comparing.{number_made, real_made, compared_typed, number_is, compared_is}
+use Rattle.gb_prog.proofs.Bound.{bound_value}
+use Rattle.gb_prog.proofs.Chances.{after_full, after_less}
+use Rattle.gb_prog.proofs.Comparing.{number_made, real_made, compared_typed, number_is, compared_is}
 use Rattle.gb_full.proofs.Full.{total_full}
-use Rattle.gb_parts.proofs.Likely.{FollowsAt}
+use Rattle.gb_prog.proofs.Likely.{FollowsAt}
 use Rattle.gb_full.specs.Lossless.{of_rest}
 use Rattle.gb_mods.specs.Exclusions.{exclusions}
 use Rattle.gb_mods.specs.Written.{written}

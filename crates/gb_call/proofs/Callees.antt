@@ -8,9 +8,9 @@ use Rattle.gb_core.specs.declared.value.Value.{Value}
 use Rattle.gb_core.specs.declared.value.Value.TheVariants.{Many}
 use Rattle.gb_core.specs.declared.var.Var.{Var}
 use Rattle.gb_core.specs.declared.var.Var.TheVariants as var
-use Rattle.gb_coupling.specs.WeightedList.{WeightedList, Every, dmap}
-use Rattle.gb_coupling.proofs.Entries.{Every-dmap, Every-weaken}
-use Rattle.gb_coupling.proofs.Monad.{bind-unit_right}
+use Rattle.gb_dist.specs.WeightedList.{WeightedList, Every, dmap}
+use Rattle.gb_dist.proofs.Entries.{Every-dmap, Every-weaken}
+use Rattle.gb_dist.proofs.Monad.{bind-unit_right}
 use Rattle.gb_terms.specs.declared.decl.Proc.{Proc}
 use Rattle.gb_terms.specs.declared.decl.TypedName.{TypedName}
 use Rattle.gb_terms.specs.declared.module.ProcRef.{ProcRef}
@@ -36,7 +36,7 @@ use Rattle.gb_laws.specs.Cells.Key.{global, local}
 use Rattle.gb_laws.specs.Writes.{Spares, UnwrittenBy}
 use Rattle.gb_laws.specs.Finite.{IsFinite}
 use Rattle.gb_laws.specs.Programs.{Take}
-use Rattle.gb_holds.specs.Declared.{declared}
+use Rattle.gb_meaning.specs.Declared.{declared}
 use Rattle.gb_goal.specs.declared.sequent.Sequent.{Sequent}
 use Rattle.gb_goal.specs.Scope.{Declarations, procedure_of}
 use Rattle.gb_typing.specs.Context.{Context, erased, of_program}

@@ -21,8 +21,8 @@ use Rattle.gb_typing.proofs.Both.{within_both}
 use Rattle.gb_typing.specs.Forms.{IsAlone, IsKeptOff}
 use Rattle.gb_typing.proofs.Spared.{Clear, spared_variables, spared_within}
 use Rattle.gb_prog.specs.Writes.{IsApart, IsOneOf, TypedVariable, variables}
-use Rattle.gb_parts.specs.Assigned.{is_clashing}
-use Rattle.gb_parts.proofs.AssignedForms.{EachAlone, NoClash, all_clear, fewer, in_both}
+use Rattle.gb_prog.specs.Assigned.{is_clashing}
+use Rattle.gb_prog.proofs.AssignedForms.{EachAlone, NoClash, all_clear, fewer, in_both}
 use Rattle.gb_call.specs.Outcomes.{clashing_after, is_among, is_clashing_after, is_left, is_read}
 use Rattle.gb_call.proofs.AfterMeans.{IsOneIn}
 

@@ -15,7 +15,7 @@ use Rattle.gb_goal.specs.declared.sequent.Sequent.{Sequent}
 use Rattle.gb_meaning.specs.Names.{Name}
 use Rattle.gb_meaning.specs.Written.{local_type}
 use Rattle.gb_laws.specs.Finite.{IsFinite}
-use Rattle.gb_holds.specs.Declared.{Declarations, declaration_of, declared, concrete_module, lemma}
+use Rattle.gb_meaning.specs.Declared.{Declarations, declaration_of, declared, concrete_module, lemma}
 use Rattle.gb_typing.specs.Context.{Context}
 use Rattle.gb_typing.specs.Programs.{HaveVariableTypes}
 use Rattle.gb_typing.specs.Formulas.{with_module}

@@ -50,9 +50,9 @@ use Rattle.gb_typing.specs.Rules.{outermost}
 use Rattle.gb_typing.proofs.Assigned.{variable_in}
 use Rattle.gb_typing.proofs.Quantified.{inside_all}
 use Rattle.gb_prog.proofs.AllValues.{bound_term, bound_plain}
-use Rattle.gb_parts.specs.Assigned.{part, part_types, parts, parts_at, parts_from, taken}
-use Rattle.gb_parts.proofs.AssignedForms.{all_behind, put_itself, put_read, put_twice, written_behind, write_of, writes}
-use Rattle.gb_parts.proofs.Parts.{part_types_are, as_many}
+use Rattle.gb_prog.specs.Assigned.{part, part_types, parts, parts_at, parts_from, taken}
+use Rattle.gb_prog.proofs.AssignedForms.{all_behind, put_itself, put_read, put_twice, written_behind, write_of, writes}
+use Rattle.gb_prog.proofs.Parts.{part_types_are, as_many}
 use mathlib.Core.Former.{Count}
 
 -- The parts of a bound value are its parts by number.

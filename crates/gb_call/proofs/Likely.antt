@@ -3,14 +3,14 @@ use Rattle.std.proofs.Common.{◌≡◌, ◌<◌, ℕ, Bool, true, false, ◌&&�
 use Rattle.std.proofs.lemmas.Bool.{and_parts}
 use Rattle.gb_terms.specs.declared.op.Rel.{Rel}
 use Rattle.gb_terms.specs.declared.op.Rel.TheVariants.{AtMost, AtLeast, Equal}
-use Rattle.gb_coupling.specs.WeightedList.{WeightedList, Every}
-use Rattle.gb_coupling.proofs.Entries.{Every-weaken}
-use Rattle.gb_coupling.proofs.Weights.{weight-every}
+use Rattle.gb_dist.specs.WeightedList.{WeightedList, Every}
+use Rattle.gb_dist.proofs.Entries.{Every-weaken}
+use Rattle.gb_dist.proofs.Weights.{weight-every}
 use Rattle.gb_meaning.specs.Fractions.{Fraction}
 use Rattle.gb_meaning.specs.Judgments.{chance, compares}
 use Rattle.gb_meaning.specs.Memory.{Memory}
-use Rattle.gb_parts.proofs.Likely.{FollowsAt}
-use Rattle.gb_parts.proofs.Weaker.{Follows, event_follows}
+use Rattle.gb_prog.proofs.Likely.{FollowsAt}
+use Rattle.gb_prog.proofs.Weaker.{Follows, event_follows}
 
 -- the first truth where it stands so to the second one, and one that stands so to it elsewhere
 abbrev bent : Rel → Bool → Bool → Bool

@@ -22,7 +22,7 @@ use Rattle.gb_meaning.specs.Values.{Types}
 use Rattle.gb_laws.specs.Cells.{Key}
 use Rattle.gb_laws.specs.Cells.Key.{global, local}
 use Rattle.gb_laws.specs.Writes.{keys_of, IsNone, Spares, Unwritten, UnwrittenBy}
-use Rattle.gb_holds.specs.Footprints.{globals_among}
+use Rattle.gb_meaning.specs.Footprints.{globals_among}
 use Rattle.gb_goal.specs.Scope.{Declarations}
 use Rattle.gb_mods.specs.Called.{all_reached, called_by, row_calls, calls}
 use Rattle.gb_mods.specs.Order.{placed, joined}

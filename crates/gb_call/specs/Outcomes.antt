@@ -19,8 +19,8 @@ use Rattle.gb_meaning.specs.Memory.{result_name}
 use Rattle.gb_typing.specs.Forms.{located}
 use Rattle.gb_prog.specs.AllValues.{in_memory, for_all, to_bound_values}
 use Rattle.gb_prog.specs.Writes.{TypedVariable}
-use Rattle.gb_parts.specs.Assigned.{put_in, taken, is_clashing}
-use Rattle.gb_parts.specs.Likely.{as_likely}
+use Rattle.gb_prog.specs.Assigned.{put_in, taken, is_clashing}
+use Rattle.gb_prog.specs.Likely.{as_likely}
 use Rattle.gb_forms.specs.Calls.{is_left_of}
 use Rattle.gb_call.specs.Written.{global_seen}
 use Rattle.gb_call.specs.declared.outcomes.Outcome as seen

@@ -47,8 +47,8 @@ use Rattle.gb_typing.specs.Rules.{outermost}
 use Rattle.gb_prog.specs.AllValues.{Located, in_memory, to_bound_values, AreLocated, AreAlone}
 use Rattle.gb_prog.specs.Writes.{DifferIn, IsApart, IsOneOf, TypedVariable, overwritten, AreIn}
 use Rattle.gb_prog.proofs.AllValues.{pushed, pushed_here, binder_of, no_frame, binding_of, bound_term, bound_writes, writes_are, for_all_typed, fit_pushed, all_true, all_writes, have_types}
-use Rattle.gb_parts.specs.Assigned.{taken}
-use Rattle.gb_parts.proofs.AssignedForms.{changes_are, put_itself, writes}
+use Rattle.gb_prog.specs.Assigned.{taken}
+use Rattle.gb_prog.proofs.AssignedForms.{changes_are, put_itself, writes}
 use Rattle.gb_call.specs.Outcomes.{Outcome}
 use Rattle.gb_call.proofs.After.{all_append, written_both}
 use Rattle.gb_call.proofs.AfterMeans.{IsOneIn}

@@ -7,11 +7,11 @@ use Rattle.gb_core.specs.declared.ty.Ty.{Ty}
 use Rattle.gb_core.specs.declared.value.Value.{Value}
 use Rattle.gb_core.specs.declared.var.Var.{Var}
 use Rattle.gb_core.specs.declared.var.Var.TheVariants as var
-use Rattle.gb_coupling.specs.WeightedList.{WeightedList, On}
-use Rattle.gb_coupling.specs.Coupling.{Coupling}
-use Rattle.gb_coupling.proofs.Basic.{coupling_dmap}
-use Rattle.gb_coupling.proofs.Entries.{On_of_Every}
-use Rattle.gb_coupling.proofs.Facts.{coupling_facts}
+use Rattle.gb_dist.specs.WeightedList.{WeightedList, On}
+use Rattle.gb_dist.specs.Coupling.{Coupling}
+use Rattle.gb_dist.proofs.Basic.{coupling_dmap}
+use Rattle.gb_dist.proofs.Entries.{On_of_Every}
+use Rattle.gb_dist.proofs.Facts.{coupling_facts}
 use Rattle.gb_terms.specs.declared.decl.Proc.{Proc}
 use Rattle.gb_terms.specs.declared.decl.TypedName.{TypedName}
 use Rattle.gb_terms.specs.declared.op.Side.{Side}
@@ -31,7 +31,7 @@ use Rattle.gb_laws.proofs.Fair.{memory_discrete}
 use Rattle.gb_laws.specs.Uses.{Uses, IsWithin}
 use Rattle.gb_laws.specs.Written.{IsSide}
 use Rattle.gb_laws.specs.Programs.{Take}
-use Rattle.gb_holds.specs.Declared.{declared}
+use Rattle.gb_meaning.specs.Declared.{declared}
 use Rattle.gb_goal.specs.declared.sequent.Sequent.{Sequent}
 use Rattle.gb_goal.specs.Answers.{Answer}
 use Rattle.gb_goal.specs.Answers.Answer.{given}
@@ -62,7 +62,7 @@ use Rattle.gb_prog.specs.AllValues.{in_memory, AreAlone}
 use Rattle.gb_prog.specs.Calls.{called_from}
 use Rattle.gb_prog.specs.Writes.{DifferIn, TypedVariable, AreIn, variables}
 use Rattle.gb_prog.proofs.Couplings.{runs_sequence}
-use Rattle.gb_parts.proofs.AssignedForms.{in_both}
+use Rattle.gb_prog.proofs.AssignedForms.{in_both}
 use Rattle.gb_call.specs.Call.{Callee, callee as callee_if, callee_of, if_few, left_of, outcome as outcome_of, unless_clash}
 use Rattle.gb_mods.specs.Exclusions.{exclusions}
 use Rattle.gb_mods.specs.Written.{written}

@@ -1,3 +1,7 @@
+pub mod Answered
+pub mod FirstGoals
+pub mod KnownIsSound
+mod Returned
 pub mod AfterBoth
 pub mod Alone
 pub mod ArgumentsOfBoth

@@ -8,10 +8,10 @@ use Rattle.gb_core.specs.declared.ty.Ty.TheVariants.{Real}
 use Rattle.gb_core.specs.declared.value.Value.{Value}
 use Rattle.gb_core.specs.declared.var.Var.{Var}
 use Rattle.gb_core.specs.declared.var.Var.TheVariants as var
-use Rattle.gb_coupling.specs.WeightedList.{WeightedList, Every, On, dmap, total, unit}
-use Rattle.gb_coupling.specs.Coupling.{Coupling}
-use Rattle.gb_coupling.proofs.Basic.{coupling_dmap, coupling_left_alone, coupling_right_alone}
-use Rattle.gb_coupling.proofs.Entries.{On_of_Every}
+use Rattle.gb_dist.specs.WeightedList.{WeightedList, Every, On, dmap, total, unit}
+use Rattle.gb_dist.specs.Coupling.{Coupling}
+use Rattle.gb_dist.proofs.Basic.{coupling_dmap, coupling_left_alone, coupling_right_alone}
+use Rattle.gb_dist.proofs.Entries.{On_of_Every}
 use Rattle.gb_terms.specs.declared.decl.TypedName.{TypedName}
 use Rattle.gb_terms.specs.declared.op.Rel.TheVariants.{AtLeast, Equal}
 use Rattle.gb_terms.specs.declared.op.Side.{Side}
@@ -39,7 +39,7 @@ use Rattle.gb_laws.specs.Plain.{IsPlain}
 use Rattle.gb_laws.specs.Written.{IsSide}
 use Rattle.gb_laws.specs.Finite.{IsFinite}
 use Rattle.gb_laws.specs.Programs.{Take}
-use Rattle.gb_holds.specs.Declared.{declared}
+use Rattle.gb_meaning.specs.Declared.{declared}
 use Rattle.gb_goal.specs.declared.sequent.Sequent.{Sequent}
 use Rattle.gb_goal.specs.Answers.Answer.{given}
 use Rattle.gb_goal.specs.Goal.{Goal}
@@ -70,10 +70,10 @@ use Rattle.gb_prog.specs.AllValues.{Located, in_memory, for_all, to_bound_values
 use Rattle.gb_prog.specs.Calls.{called_from}
 use Rattle.gb_prog.specs.Writes.{DifferIn, TypedVariable, AreIn, variables}
 use Rattle.gb_prog.proofs.Certain.{certain_everywhere, chance_one}
-use Rattle.gb_parts.specs.Assigned.{put_in, taken}
-use Rattle.gb_parts.specs.OneBody.{OneBody}
-use Rattle.gb_parts.specs.Compared.{literal}
-use Rattle.gb_parts.proofs.Comparing.{literal_value}
+use Rattle.gb_prog.specs.Assigned.{put_in, taken}
+use Rattle.gb_prog.specs.OneBody.{OneBody}
+use Rattle.gb_prog.specs.Compared.{literal}
+use Rattle.gb_prog.proofs.Comparing.{literal_value}
 use Rattle.gb_full.specs.Loss.{nowhere, code_loss}
 use Rattle.gb_full.proofs.Full.{procedure_whole}
 use Rattle.gb_call.specs.Call.{Callee, IsContract, before_call, callee_of, outcome as outcome_of}

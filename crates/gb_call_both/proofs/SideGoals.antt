@@ -18,7 +18,7 @@ use Rattle.gb_laws.specs.Plain.{IsPlain}
 use Rattle.gb_typing.specs.Forms.{located}
 use Rattle.gb_typing.proofs.Given.{refused_given, same_given}
 use Rattle.gb_prog.specs.Writes.{TypedVariable}
-use Rattle.gb_parts.specs.OneBody.{OneBody}
+use Rattle.gb_prog.specs.OneBody.{OneBody}
 use Rattle.gb_full.specs.Loss.{Loss, nowhere, sampled, called}
 use Rattle.gb_call.specs.Call.{Callee, callee, callee_of, if_few, left_of, unless_clash}
 use Rattle.gb_call.specs.LastCall.{LastCall}

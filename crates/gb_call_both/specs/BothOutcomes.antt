@@ -10,7 +10,7 @@ use Rattle.gb_walk.specs.Change.{Changes, term_changed}
 use Rattle.gb_meaning.specs.Memory.{result_name}
 use Rattle.gb_typing.specs.Forms.{implies_form}
 use Rattle.gb_prog.specs.AllValues.{Located, in_memory, for_all, to_bound_values}
-use Rattle.gb_parts.specs.Assigned.{put_in, taken}
+use Rattle.gb_prog.specs.Assigned.{put_in, taken}
 use Rattle.gb_call.specs.Outcomes.{Outcome, put_for, reads_result}
 use Rattle.gb_call_both.specs.declared.both.Meant.{Meant}
 

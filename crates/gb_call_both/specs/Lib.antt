@@ -1,3 +1,4 @@
+pub mod Known
 pub mod BothOutcomes
 pub mod Call
 pub mod OneSide

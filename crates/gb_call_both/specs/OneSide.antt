@@ -21,7 +21,7 @@ use Rattle.gb_goal.specs.Rows.{Row, refusing}
 use Rattle.gb_goal.specs.Scope.{Declarations}
 use Rattle.gb_typing.specs.Forms.{located}
 use Rattle.gb_prog.specs.Writes.{TypedVariable}
-use Rattle.gb_parts.specs.OneBody.{OneBody, one_body, on_one}
+use Rattle.gb_prog.specs.OneBody.{OneBody, one_body, on_one}
 use Rattle.gb_full.specs.Loss.{Loss, nowhere, code_loss}
 use Rattle.gb_full.specs.Lossless.{full}
 use Rattle.gb_call.specs.Call.{Callee, before_call, callee_of, if_few, left_of, unless_clash}

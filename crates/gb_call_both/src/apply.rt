@@ -8,7 +8,7 @@ use crate::call::call;
 use gb_core::refusal::Refused;
 use gb_goal::scope::Scope;
 use gb_goal::sequent::{Sequent, Sequents};
-use gb_parts::subgoals::{no_shape, placed};
+use gb_prog::subgoals::{no_shape, placed};
 use gb_steps::step::{Rule, Step};
 use std::alloc::Global;
 

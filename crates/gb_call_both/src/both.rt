@@ -13,7 +13,7 @@ use gb_core::copy::copy_var;
 use gb_core::ty::Ty;
 use gb_core::var::Var;
 use gb_forms::calls::Reads;
-use gb_parts::assigned::{put_in, taken};
+use gb_prog::assigned::{put_in, taken};
 use gb_terms::decl::TypedName;
 use gb_terms::make::{forall, implication};
 use gb_terms::op::{Read, Side};

@@ -1,3 +1,5 @@
+pub mod Entries
+pub mod Counted
 pub mod Labels
 pub mod Linked
 pub mod Numbers

@@ -21,7 +21,7 @@ use Rattle.gb_laws.specs.Typing.{Binder}
 use Rattle.gb_laws.specs.Typing.Binder.{value, index, memory}
 use Rattle.gb_laws.proofs.Meanings.{fraction_above}
 use Rattle.gb_walk.specs.Clash.{Exclusions}
-use Rattle.gb_reads.specs.Reads.{Vars, are_free}
+use Rattle.gb_labels.specs.Reads.{Vars, are_free}
 use Rattle.gb_labels.specs.Things.{modules_of}
 use Rattle.gb_closing_laws.specs.Pairs.{Pairing}
 use Rattle.gb_closing_laws.specs.Related.{ReadTypes, Related, MeaningRelated, ReadsRelated, StateRelated}

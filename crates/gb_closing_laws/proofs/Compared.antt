@@ -19,7 +19,7 @@ use Rattle.gb_meaning.specs.Judgments.{Judge, speaking, den}
 use Rattle.gb_meaning.specs.Written.{type_of}
 use Rattle.gb_meaning.proofs.Nodes.{each_is_node, term_is_node, val_node}
 use Rattle.gb_meaning.proofs.Truths.{truth_of}
-use Rattle.gb_holds.specs.Truth.{has_module}
+use Rattle.gb_meaning.specs.Truth.{has_module}
 use Rattle.gb_laws.specs.Operators.{IsSigned}
 use Rattle.gb_typing.specs.Context.{Context}
 use Rattle.gb_typing.specs.Typing.{IsTyped, IsForm}

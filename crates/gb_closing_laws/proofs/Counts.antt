@@ -21,12 +21,12 @@ use Rattle.gb_walk.specs.Layers.{seen_by}
 use Rattle.gb_laws.specs.Operators.{IsDistributionType, IsOperator}
 use Rattle.gb_laws.specs.Typing.{Context, types_of, IsHead, IsMemory, binder, inner, IsTyped, AreTyped}
 use Rattle.gb_walk.specs.Clash.{Exclusions}
-use Rattle.gb_reads.specs.Reads.{Vars, are_free, each_reads, head_reads, inside, is_among, joined, reads_at}
+use Rattle.gb_labels.specs.Reads.{Vars, are_free, each_reads, head_reads, inside, is_among, joined, reads_at}
 use Rattle.gb_labels.specs.declared.things.Source.{Source}
 use Rattle.gb_labels.specs.declared.things.Source.TheVariants.{Variable, Opened, Place}
 use Rattle.gb_labels.specs.declared.things.Thing.{Thing}
 use Rattle.gb_labels.specs.Things.{holds_glob, modules_of, of_types, bound_by, reads_inside, thing_of, things_at, all_things_at, reads_freely, all_read_freely}
-use Rattle.gb_holds.specs.Globs.{IsGlobless}
+use Rattle.gb_meaning.specs.Globs.{IsGlobless}
 use Rattle.gb_closing_laws.specs.Related.{ReadTypes}
 use Rattle.gb_closing_laws.specs.Needs.{names_in, times, quantified_at, quantified, all_quantified, opened_at, opened, all_opened, IsCountedType, AreCountedTypes, IsMadeOf, CountsAt, Counts, AllCount, inside as inside_of}
 use Rattle.gb_closing_laws.specs.Model.{IsOfValuesAt, IsOfValues, AreOfValues, HeadReads, Reads, AllRead}

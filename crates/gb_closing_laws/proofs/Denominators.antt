@@ -11,7 +11,7 @@ use Rattle.gb_meaning.specs.Setting.{Setting}
 use Rattle.gb_meaning.specs.Operators.{denominator_at, denominator_over, outcome_type}
 use Rattle.gb_meaning.specs.Terms.{denominator, denominators, denominator_of}
 use Rattle.gb_typing.proofs.PlainGlobals.{globless_values}
-use Rattle.gb_reads.specs.Reads.{Vars}
+use Rattle.gb_labels.specs.Reads.{Vars}
 use Rattle.gb_labels.specs.Things.{reads_inside}
 use Rattle.gb_closing_laws.specs.Related.{ReadTypes}
 use Rattle.gb_closing_laws.specs.Needs.{IsMadeOf, CountsAt, inside, Counts, AllCount}

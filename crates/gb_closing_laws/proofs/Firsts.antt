@@ -6,7 +6,7 @@ use Rattle.gb_core.specs.declared.ty.Ty.TheVariants as ty
 use Rattle.gb_types.specs.Numbering.{Numbering, tuples, tuple_at}
 use Rattle.gb_meaning.specs.Names.{Name}
 use Rattle.gb_meaning.specs.Values.{Types, values, first}
-use Rattle.gb_holds.specs.Globs.{IsGlobless}
+use Rattle.gb_meaning.specs.Globs.{IsGlobless}
 use Rattle.gb_typing.proofs.PlainGlobals.{globless_values}
 use Rattle.gb_laws.specs.Finite.{IsFinite, AreFiniteWith, IsInhabited}
 use Rattle.gb_laws.proofs.Sizes.{first_has}

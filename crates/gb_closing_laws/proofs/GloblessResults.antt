@@ -23,8 +23,8 @@ use Rattle.gb_meaning.specs.Drawn.{has_weights}
 use Rattle.gb_meaning.specs.Names.{Name}
 use Rattle.gb_meaning.specs.Operators.{outcome_type}
 use Rattle.gb_meaning.specs.Written.{type_of}
-use Rattle.gb_holds.specs.Globs.{EachGlob, EachGlobIn}
-use Rattle.gb_holds.specs.Naming.{AnyName, EachName}
+use Rattle.gb_meaning.specs.Globs.{EachGlob, EachGlobIn}
+use Rattle.gb_meaning.specs.Naming.{AnyName, EachName}
 use Rattle.gb_typing.specs.Naming.{NoName, HeadNames, TermNames, TermsName}
 use Rattle.gb_laws.specs.Finite.{AreFiniteWith, IsVariableType}
 use Rattle.gb_laws.specs.Operators.{IsDistributionType}

@@ -8,9 +8,9 @@ use Rattle.gb_goal.specs.Scope.{entry_of}
 use Rattle.gb_meaning.specs.Names.{Name}
 use Rattle.gb_meaning.specs.Setting.{Setting}
 use Rattle.gb_laws.specs.Plain.{IsPlain}
-use Rattle.gb_holds.specs.Declared.{Declarations, declaration_of, declared}
-use Rattle.gb_holds.specs.Naming.{AnyName}
-use Rattle.gb_holds.specs.Settings.{at_arguments}
+use Rattle.gb_meaning.specs.Declared.{Declarations, declaration_of, declared}
+use Rattle.gb_meaning.specs.Naming.{AnyName}
+use Rattle.gb_meaning.specs.Settings.{at_arguments}
 use Rattle.gb_typing.specs.Naming.{NoName, TermNames}
 use Rattle.gb_typing.specs.Context.{Context}
 use Rattle.gb_typing.specs.Scopes.{nothing, with_declared, AreTypedAfter, IsTypedScope}

@@ -3,7 +3,7 @@ use Rattle.std.proofs.Common.{◌≡◌, ℕ, ◌+◌, ◌*◌, Bool, true, fals
 use Rattle.gb_core.specs.declared.ty.Ty.{Ty, Row_of-Ty, end_of-Ty, more_of-Ty}
 use Rattle.gb_core.specs.declared.ty.Ty.TheVariants as ty
 use Rattle.gb_core.specs.declared.value.Value.{Value}
-use Rattle.gb_coupling.specs.WeightedList.{WeightedList, mass, scale, bind, dmap, Every}
+use Rattle.gb_dist.specs.WeightedList.{WeightedList, mass, scale, bind, dmap, Every}
 use Rattle.std.specs.Ordering.{int_eq}
 use Rattle.gb_meaning.specs.Fractions.{Fraction, is_same}
 use Rattle.gb_meaning.specs.Values.{Types, has, value_eq}
@@ -14,7 +14,7 @@ use Rattle.gb_meaning.specs.Distributions.{restricted}
 use Rattle.gb_meaning.specs.Operators.{outcome_type, only_type}
 use Rattle.gb_meaning.proofs.Bools.{same_truth}
 use Rattle.gb_meaning.proofs.Values.{value_eq-true}
-use Rattle.gb_holds.specs.Globs.{IsGlobless, EachGlobIn}
+use Rattle.gb_meaning.specs.Globs.{IsGlobless, EachGlobIn}
 use Rattle.gb_laws.specs.Finite.{IsFinite}
 use Rattle.gb_laws.specs.Operators.{IsNoDistribution}
 use Rattle.gb_laws.specs.Meant.{IsOfDistributions, IsOf}

@@ -14,8 +14,8 @@ use Rattle.gb_terms.proofs.Equality.{var_eq-Decides}
 use Rattle.gb_meaning.specs.Names.{Name}
 use Rattle.gb_meaning.specs.Values.{Types}
 use Rattle.gb_walk.specs.Clash.{Exclusions, excludes}
-use Rattle.gb_reads.specs.Memories.{AreKeptApart}
-use Rattle.gb_reads.proofs.Memories.{all_apart}
+use Rattle.gb_labels.specs.Memories.{AreKeptApart}
+use Rattle.gb_labels.proofs.Memories.{all_apart}
 use Rattle.gb_closing_laws.specs.Settings.{IsUnnamed, AreUnnamed}
 use Rattle.gb_closing_laws.proofs.Stated.{ReadTys}
 use Rattle.gb_closing_laws.proofs.Memories.{IsLabel, read_other}

@@ -26,10 +26,10 @@ use Rattle.gb_meaning.specs.State.{State}
 use Rattle.gb_meaning.specs.Terms.{Speaks, val}
 use Rattle.gb_meaning.specs.Judgments.{Judge, IsFair, speaking, den}
 use Rattle.gb_laws.proofs.Fair.{is_fair}
-use Rattle.gb_holds.specs.Declared.{Declarations, declared}
-use Rattle.gb_holds.specs.Holds.{AreValues, context}
-use Rattle.gb_holds.specs.Programs.{AreOnce}
-use Rattle.gb_holds.specs.Truth.{has_module}
+use Rattle.gb_meaning.specs.Declared.{Declarations, declared}
+use Rattle.gb_meaning.specs.Holds.{AreValues, context}
+use Rattle.gb_meaning.specs.Programs.{AreOnce}
+use Rattle.gb_meaning.specs.Truth.{has_module}
 use Rattle.gb_laws.specs.Finite.{IsFinite, IsInhabited}
 use Rattle.gb_laws.specs.Operators.{item}
 use Rattle.gb_laws.specs.Programs.{HaveFiniteTypes}
@@ -48,7 +48,7 @@ use Rattle.gb_typing.proofs.Lifted.{sequent_outermost}
 use Rattle.gb_amb.proofs.Itself.{meaning_is_of}
 use Rattle.gb_amb.proofs.Wider.{small}
 use Rattle.gb_mods.specs.Exclusions.{exclusions}
-use Rattle.gb_reads.specs.Memories.{AreKeptApart}
+use Rattle.gb_labels.specs.Memories.{AreKeptApart}
 use Rattle.gb_eval.specs.Eval.{operators_of}
 use Rattle.gb_eval.specs.Known.{is_known, known_of}
 use Rattle.gb_eval.specs.Meant.{AreBodies, AreOperators}

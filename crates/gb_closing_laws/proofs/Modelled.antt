@@ -28,7 +28,7 @@ use Rattle.gb_labels.specs.declared.things.Source.TheVariants.{Variable, Opened,
 use Rattle.gb_labels.specs.declared.things.Thing.{Thing}
 use Rattle.gb_labels.specs.Labels.{Labels}
 use Rattle.gb_walk.specs.Clash.{Exclusions}
-use Rattle.gb_reads.specs.Reads.{reads_at}
+use Rattle.gb_labels.specs.Reads.{reads_at}
 use Rattle.gb_labels.specs.Things.{holds_glob, modules_of, things_at, is_noted, things_in, modules_in, reads_freely, counted, most_labels}
 use Rattle.gb_closing_laws.specs.Pairs.{Pairing}
 use Rattle.gb_closing_laws.specs.Related.{ReadTypes, ReadIs, Related, MeaningRelated, BoundRelated, StateRelated}

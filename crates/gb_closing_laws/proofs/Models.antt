@@ -20,7 +20,7 @@ use Rattle.gb_meaning.specs.State.{State}
 use Rattle.gb_meaning.specs.Values.{values}
 use Rattle.gb_laws.proofs.Exact.{trying}
 use Rattle.gb_laws.proofs.Fair.{is_fair}
-use Rattle.gb_holds.specs.Holds.{AreValues, context}
+use Rattle.gb_meaning.specs.Holds.{AreValues, context}
 use Rattle.gb_laws.specs.Finite.{IsFinite, IsInhabited}
 use Rattle.gb_typing.specs.Context.{Context, Frame, erased}
 use Rattle.gb_typing.specs.Fits.{IsSettingOf}
@@ -28,7 +28,7 @@ use Rattle.gb_typing.specs.Typing.{IsTyped, IsForm}
 use Rattle.gb_typing.proofs.Erased.{erased_typed}
 use Rattle.gb_amb.proofs.Wider.{small}
 use Rattle.gb_walk.specs.Clash.{Exclusions}
-use Rattle.gb_reads.specs.Memories.{AreKeptApart}
+use Rattle.gb_labels.specs.Memories.{AreKeptApart}
 use Rattle.gb_labels.specs.Labels.{Labels, choices, choice_at, count_of, labels}
 use Rattle.gb_labels.specs.Things.{most_labels, modules_in, things_in, counted, reads_freely}
 use Rattle.gb_closing_laws.specs.Related.{ReadTypes, ReadIs}

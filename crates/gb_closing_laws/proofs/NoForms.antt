@@ -20,7 +20,7 @@ use Rattle.gb_laws.proofs.Trees.{out_is}
 use Rattle.gb_laws.proofs.Changed.{term_changed_is}
 use Rattle.gb_laws.proofs.Bodies.{body_changed_is}
 use Rattle.gb_laws.proofs.Forms.{procedure_stays}
-use Rattle.gb_holds.specs.Truth.{has_module, last_has_module}
+use Rattle.gb_meaning.specs.Truth.{has_module, last_has_module}
 use Rattle.gb_goal.specs.Goal.{is_body_at, judges_bodies}
 use Rattle.gb_goal.specs.Scope.{Declarations}
 use Rattle.gb_smt.specs.declared.leaves.Leaf.{Leaf}

@@ -6,7 +6,7 @@ use Rattle.gb_core.specs.declared.value.Value.{Value}
 use Rattle.gb_core.specs.declared.value.Value.TheVariants.{Num, Many}
 use Rattle.gb_types.specs.Numbering.{parts_in, parts_of, first_or, are_entries}
 use Rattle.gb_types.proofs.Lawful.{out-Many}
-use Rattle.gb_coupling.specs.WeightedList.{WeightedList, unit, bit}
+use Rattle.gb_dist.specs.WeightedList.{WeightedList, unit, bit}
 use Rattle.gb_terms.specs.declared.op.Op.{Op}
 use Rattle.gb_terms.specs.declared.op.Op.TheVariants as op
 use Rattle.gb_terms.specs.declared.term.Head.TheVariants.{Builtin}
@@ -17,7 +17,7 @@ use Rattle.gb_meaning.specs.Meanings.{of_truth, value_in, truth, weights_in, sam
 use Rattle.gb_meaning.specs.Distributions.{uniform, product}
 use Rattle.gb_meaning.specs.Operators.{Argument, outcome_type, key_type, operated, chosen, weight_of, entry_of, entry_set, is_none}
 use Rattle.gb_meaning.specs.Trees.{distributions, options}
-use Rattle.gb_holds.specs.Globs.{IsGlobless}
+use Rattle.gb_meaning.specs.Globs.{IsGlobless}
 use Rattle.gb_typing.specs.Naming.{EachGlobAmong}
 use Rattle.gb_typing.proofs.PlainGlobals.{globless_values}
 use Rattle.gb_laws.specs.Finite.{IsFinite, IsInhabited}

@@ -9,13 +9,13 @@ use Rattle.gb_terms.specs.declared.module.Mexp.TheVariants.{Name as named}
 use Rattle.gb_meaning.specs.Names.{Name}
 use Rattle.gb_meaning.specs.Values.{Global, Types, values}
 use Rattle.gb_meaning.specs.Memory.{Memory}
-use Rattle.gb_holds.specs.Programs.{AreOnce}
+use Rattle.gb_meaning.specs.Programs.{AreOnce}
 use Rattle.gb_laws.specs.Finite.{IsFinite, AreVariables, IsInhabited}
 use Rattle.gb_laws.proofs.Sizes.{finite_sized}
 use Rattle.gb_walk.specs.Clash.{Exclusions}
-use Rattle.gb_reads.specs.Reads.{Vars, are_free}
-use Rattle.gb_reads.specs.Memories.{AreKeptApart, AreOf, AreGlobless, IsReadable, AreReadable, HaveValues, read_all}
-use Rattle.gb_reads.proofs.Memories.{of_types, exist}
+use Rattle.gb_labels.specs.Reads.{Vars, are_free}
+use Rattle.gb_labels.specs.Memories.{AreKeptApart, AreOf, AreGlobless, IsReadable, AreReadable, HaveValues, read_all}
+use Rattle.gb_labels.proofs.Memories.{of_types, exist}
 use Rattle.gb_labels.specs.Things.{modules_of}
 use Rattle.gb_closing_laws.specs.Pairs.{Pairs, Pairing}
 use Rattle.gb_closing_laws.specs.Related.{Related, ReadsRelated}

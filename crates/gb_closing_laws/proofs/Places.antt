@@ -18,7 +18,7 @@ use Rattle.gb_meaning.specs.Judgments.{Judge, IsFair, speaking, den}
 use Rattle.gb_meaning.specs.Operators.{operated}
 use Rattle.gb_meaning.specs.Terms.{argument, parts}
 use Rattle.gb_meaning.proofs.Truths.{truth_of}
-use Rattle.gb_holds.specs.Holds.{AreValues, context}
+use Rattle.gb_meaning.specs.Holds.{AreValues, context}
 use Rattle.gb_laws.specs.Finite.{IsFinite}
 use Rattle.gb_laws.specs.Operators.{IsOperator}
 use Rattle.gb_laws.specs.Typing.{types_of}

@@ -21,7 +21,7 @@ use Rattle.gb_meaning.specs.Setting.{Setting}
 use Rattle.gb_meaning.specs.Setting.Meaning.{finite}
 use Rattle.gb_meaning.specs.State.{State, no_memory}
 use Rattle.gb_meaning.specs.Terms.{read_at}
-use Rattle.gb_holds.specs.Holds.{AreValues, context}
+use Rattle.gb_meaning.specs.Holds.{AreValues, context}
 use Rattle.gb_meaning.proofs.Numberings.{fit_has}
 use Rattle.gb_laws.specs.Finite.{IsFinite, IsInhabited}
 use Rattle.gb_laws.specs.Operators.{item}

@@ -12,7 +12,7 @@ use Rattle.gb_terms.specs.declared.module.Mexp.TheVariants.{Name as named}
 use Rattle.gb_meaning.specs.Names.{Name}
 use Rattle.gb_meaning.specs.Values.{Types, values, has, all_values_by, boxed_values_by, footprint_values}
 use Rattle.gb_meaning.proofs.Numberings.{lawful}
-use Rattle.gb_holds.specs.Globs.{IsGlobless, EachGlobIn}
+use Rattle.gb_meaning.specs.Globs.{IsGlobless, EachGlobIn}
 use Rattle.gb_typing.proofs.PlainGlobals.{globless_values}
 use Rattle.gb_closing_laws.specs.Pairs.{Pairs, Pairing}
 use Rattle.gb_closing_laws.specs.Related.{Related, AllRelated, OptionRelated, BoxRelated}

@@ -3,8 +3,8 @@ use Rattle.std.proofs.Common.{◌≡◌, Bool, true, false, if◌then◌else◌,
 use Rattle.std.proofs.lemmas.Bool.{false≢true}
 use Rattle.gb_core.specs.declared.ty.Ty.{Ty}
 use Rattle.gb_meaning.specs.Names.{Name}
-use Rattle.gb_holds.specs.Declared.{Declarations, Declaration, operator, abstract_operator}
-use Rattle.gb_holds.specs.Globs.{EachGlob}
+use Rattle.gb_meaning.specs.Declared.{Declarations, Declaration, operator, abstract_operator}
+use Rattle.gb_meaning.specs.Globs.{EachGlob}
 use Rattle.gb_typing.specs.Naming.{NoName, EachGlobAmong}
 use Rattle.gb_laws.specs.Typing.{OperatorType}
 use Rattle.gb_typing.specs.Context.{Context, erased}

@@ -13,8 +13,8 @@ use Rattle.gb_terms.proofs.Equality.{var_eq-Decides}
 use Rattle.gb_meaning.specs.Operators.{outcome_type}
 use Rattle.gb_laws.specs.Typing.{Binder, Context, IsHead, IsMemory, binder, inner, types_of}
 use Rattle.gb_laws.specs.Typing.Binder.{value, index, memory, program}
-use Rattle.gb_reads.specs.declared.reads.TypedVar.{TypedVar}
-use Rattle.gb_reads.specs.Reads.{Vars, inside, is_among, noted, reads_at, reads_of, with_new}
+use Rattle.gb_labels.specs.declared.reads.TypedVar.{TypedVar}
+use Rattle.gb_labels.specs.Reads.{Vars, inside, is_among, noted, reads_at, reads_of, with_new}
 use Rattle.gb_labels.specs.Things.{reads_inside}
 use Rattle.gb_closing_laws.specs.Needs.{inside as inside_of}
 use mathlib.Core.Former.{Count}

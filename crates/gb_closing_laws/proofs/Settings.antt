@@ -10,8 +10,8 @@ use Rattle.gb_meaning.specs.Setting.{Setting}
 use Rattle.gb_meaning.specs.State.{State}
 use Rattle.gb_meaning.specs.Terms.{quiet, val, denominator}
 use Rattle.gb_meaning.specs.Values.{Types, values}
-use Rattle.gb_holds.specs.Globs.{EachGlob}
-use Rattle.gb_holds.specs.Naming.{AnyName, EachName}
+use Rattle.gb_meaning.specs.Globs.{EachGlob}
+use Rattle.gb_meaning.specs.Naming.{AnyName, EachName}
 use Rattle.gb_typing.specs.Agreement.{SameValues, SameFootprint}
 use Rattle.gb_typing.specs.Naming.{NoName, TermNames, AgreeOn}
 use Rattle.gb_typing.proofs.Agreeing.{values_agree, term_agrees}

@@ -12,7 +12,7 @@ use Rattle.gb_laws.specs.Context.{AreOf}
 use Rattle.gb_laws.specs.Operators.{IsDistributionType}
 use Rattle.gb_laws.specs.Typing.{Binder}
 use Rattle.gb_laws.specs.Typing as typing
-use Rattle.gb_reads.specs.Reads.{Vars}
+use Rattle.gb_labels.specs.Reads.{Vars}
 use Rattle.gb_closing_laws.specs.Pairs.{Pairing}
 use Rattle.gb_closing_laws.specs.Related.{ReadTypes, MeaningRelated, StateRelated}
 use Rattle.gb_closing_laws.specs.Needs.{HasFirsts, HasRoom, quantified, all_quantified, opened, all_opened}

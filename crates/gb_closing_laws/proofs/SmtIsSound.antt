@@ -15,12 +15,12 @@ use Rattle.gb_meaning.specs.Memory.{Memory}
 use Rattle.gb_meaning.specs.Setting.{Setting}
 use Rattle.gb_meaning.specs.State.{State}
 use Rattle.gb_meaning.specs.Judgments.{Judge, IsFair, speaking, den}
-use Rattle.gb_holds.specs.Declared.{Declarations, declared}
-use Rattle.gb_holds.specs.Settings.{Interpretation, types_of, setting}
-use Rattle.gb_holds.specs.Truth.{has_module, Truth}
-use Rattle.gb_holds.specs.Holds.{AreValues, AreTrue, context, Holds}
-use Rattle.gb_holds.proofs.Fronts.{without_modules}
-use Rattle.gb_holds.proofs.SettingTypes.{setting-types}
+use Rattle.gb_meaning.specs.Declared.{Declarations, declared}
+use Rattle.gb_meaning.specs.Settings.{Interpretation, types_of, setting}
+use Rattle.gb_meaning.specs.Truth.{has_module, Truth}
+use Rattle.gb_meaning.specs.Holds.{AreValues, AreTrue, context, Holds}
+use Rattle.gb_meaning.proofs.Fronts.{without_modules}
+use Rattle.gb_meaning.proofs.SettingTypes.{setting-types}
 use Rattle.gb_laws.specs.Finite.{IsFinite, IsInhabited}
 use Rattle.gb_laws.specs.Programs.{HaveFiniteTypes}
 use Rattle.gb_typing.specs.Context.{Context, Frame}
@@ -39,7 +39,7 @@ use Rattle.gb_amb.proofs.Idle.{unchanged}
 use Rattle.gb_amb.proofs.Wider.{small}
 use Rattle.gb_mods.specs.Exclusions.{exclusions}
 use Rattle.gb_adversaries.proofs.KeptOff.{kept_off}
-use Rattle.gb_reads.specs.Memories.{AreKeptApart}
+use Rattle.gb_labels.specs.Memories.{AreKeptApart}
 use Rattle.gb_eval.specs.Meant.{AreBodies}
 use Rattle.gb_smt.specs.declared.leaves.Leaf.{Leaf}
 use Rattle.gb_smt.specs.Leaves as leaves

@@ -21,7 +21,7 @@ use Rattle.gb_meaning.specs.Written.{type_of}
 use Rattle.gb_meaning.specs.Judgments.{Judge, IsFair, den}
 use Rattle.gb_meaning.proofs.Truths.{true_and, true_implies, true_all, true_all_memory}
 use Rattle.gb_laws.proofs.Changed.{term_changed_is}
-use Rattle.gb_holds.specs.Holds.{context}
+use Rattle.gb_meaning.specs.Holds.{context}
 use Rattle.gb_laws.specs.Typing.Binder.{value, memory}
 use Rattle.gb_typing.specs.Context.{Context, Frame, within}
 use Rattle.gb_typing.specs.Typing.{IsTyped, IsForm, AreTyped}

@@ -22,7 +22,7 @@ use Rattle.gb_meaning.specs.Terms.{read_at}
 use Rattle.gb_laws.specs.Typing.{Context, Binder, IsBoundAt, IsMemory, IsRead}
 use Rattle.gb_laws.specs.Typing.Binder.{value, index, memory, program}
 use Rattle.gb_laws.proofs.Meanings.{number_has}
-use Rattle.gb_reads.specs.Reads.{Vars, is_among}
+use Rattle.gb_labels.specs.Reads.{Vars, is_among}
 use Rattle.gb_closing_laws.specs.Pairs.{Pairs, Pairing}
 use Rattle.gb_closing_laws.specs.Related.{ReadTypes, ReadIs, Related, MeaningRelated, ReadsRelated, BindingRelated, BoundRelated, StateRelated}
 use Rattle.gb_closing_laws.specs.Needs.{HasFirsts, IsReadAt}

@@ -3,7 +3,7 @@ use Rattle.std.proofs.Common.{◌≡◌, ◌↔◌, Bool, true, pos, Some, List,
 use Rattle.gb_core.specs.declared.ty.Ty.{Ty}
 use Rattle.gb_core.specs.declared.ty.Ty.TheVariants as ty
 use Rattle.gb_core.specs.declared.value.Value.{Value}
-use Rattle.gb_coupling.specs.WeightedList.{weight, bit, dmap}
+use Rattle.gb_dist.specs.WeightedList.{weight, bit, dmap}
 use Rattle.gb_terms.specs.declared.term.Pair.{Pair}
 use Rattle.gb_terms.specs.declared.term.Term.{Term, Term', Row_of-Term, end_of-Term, more_of-Term, end_of-Head, more_of-Head}
 use Rattle.gb_terms.specs.declared.term.Head.{Head}
@@ -30,7 +30,7 @@ use Rattle.gb_laws.specs.Typing as typing
 use Rattle.gb_laws.specs.Typing.Binder.{value, index, memory}
 use Rattle.gb_laws.proofs.Drawn.{typed_distribution}
 use Rattle.gb_walk.specs.Clash.{Exclusions}
-use Rattle.gb_reads.specs.Reads.{Vars, are_free}
+use Rattle.gb_labels.specs.Reads.{Vars, are_free}
 use Rattle.gb_labels.specs.Things.{modules_of, reads_inside}
 use Rattle.gb_closing_laws.specs.Pairs.{Pairing}
 use Rattle.gb_closing_laws.specs.Related.{ReadTypes, Related, WeightsRelated, MeaningRelated, StateRelated}

@@ -16,7 +16,7 @@ use Rattle.gb_goal.specs.declared.sequent.Hyp.{Hyp}
 use Rattle.gb_goal.specs.declared.sequent.Sequent.{Sequent}
 use Rattle.gb_meaning.specs.Written.{type_of}
 use Rattle.gb_meaning.proofs.Nodes.{each_is_node}
-use Rattle.gb_holds.specs.Truth.{has_module, last_has_module, Choice}
+use Rattle.gb_meaning.specs.Truth.{has_module, last_has_module, Choice}
 use Rattle.gb_laws.specs.Finite.{IsFinite}
 use Rattle.gb_laws.specs.Operators.{item, IsOperator}
 use Rattle.gb_laws.specs.Typing.{Binder, types_of, IsHead}

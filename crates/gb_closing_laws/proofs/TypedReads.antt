@@ -12,8 +12,8 @@ use Rattle.gb_terms.specs.declared.term.Head.TheVariants as head
 use Rattle.gb_walk.specs.Layers.{seen_by}
 use Rattle.gb_laws.specs.Finite.{IsFinite}
 use Rattle.gb_laws.specs.Typing.{Context, types_of, IsRead, IsHead, inner, IsTyped, AreTyped}
-use Rattle.gb_reads.specs.declared.reads.TypedVar.{TypedVar}
-use Rattle.gb_reads.specs.Reads.{Vars, is_bound_at, head_reads, inside, joined, reads_at, each_reads, is_among, with_new, noted, reads_of}
+use Rattle.gb_labels.specs.declared.reads.TypedVar.{TypedVar}
+use Rattle.gb_labels.specs.Reads.{Vars, is_bound_at, head_reads, inside, joined, reads_at, each_reads, is_among, with_new, noted, reads_of}
 use Rattle.gb_labels.specs.Things.{reads_inside}
 use mathlib.Core.Former.{Count}
 

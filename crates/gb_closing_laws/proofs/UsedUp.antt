@@ -22,7 +22,7 @@ use Rattle.gb_meaning.specs.Judgments.{Judge, IsFair, speaking, den}
 use Rattle.gb_meaning.specs.Written.{type_of}
 use Rattle.gb_meaning.proofs.Nodes.{val_node}
 use Rattle.gb_meaning.proofs.Truths.{truth_of}
-use Rattle.gb_holds.specs.Holds.{context}
+use Rattle.gb_meaning.specs.Holds.{context}
 use Rattle.gb_laws.specs.Operators.{IsNoDistribution}
 use Rattle.gb_laws.proofs.Nodes.{type_of_node}
 use Rattle.gb_typing.specs.Context.{Context, Frame}

@@ -20,14 +20,14 @@ use Rattle.gb_meaning.specs.State.{State, under}
 use Rattle.gb_meaning.specs.State.Binding.{memory}
 use Rattle.gb_meaning.specs.Written.{type_of}
 use Rattle.gb_meaning.specs.Terms.{Speaks, last_of, read_at, val, parts}
-use Rattle.gb_holds.specs.Globs.{IsGlobless}
-use Rattle.gb_holds.specs.Programs.{AreOnce}
+use Rattle.gb_meaning.specs.Globs.{IsGlobless}
+use Rattle.gb_meaning.specs.Programs.{AreOnce}
 use Rattle.gb_typing.specs.Agreement.{SameOperator}
 use Rattle.gb_typing.specs.Naming.{EachGlobAmong}
 use Rattle.gb_laws.specs.Finite.{IsInhabited}
 use Rattle.gb_laws.specs.Typing.{OperatorType, Context, IsTyped}
 use Rattle.gb_walk.specs.Clash.{Exclusions}
-use Rattle.gb_reads.specs.Memories.{AreKeptApart}
+use Rattle.gb_labels.specs.Memories.{AreKeptApart}
 use Rattle.gb_labels.specs.Labels.{Labels, count_of}
 use Rattle.gb_closing_laws.specs.Related.{ReadTypes, ReadIs}
 use mathlib.Core.Former.{arity, this}

@@ -13,10 +13,10 @@ use Rattle.gb_terms.specs.declared.term.Head.{Head}
 use Rattle.gb_terms.specs.declared.term.Head.TheVariants as head
 use Rattle.gb_meaning.specs.Names.{Name}
 use Rattle.gb_meaning.specs.Values.{Types, values, first}
-use Rattle.gb_holds.specs.Globs.{IsGlobless}
+use Rattle.gb_meaning.specs.Globs.{IsGlobless}
 use Rattle.gb_walk.specs.Layers.{is_binder}
 use Rattle.gb_walk.specs.Clash.{Exclusions}
-use Rattle.gb_reads.specs.Reads.{Vars, are_free, is_among}
+use Rattle.gb_labels.specs.Reads.{Vars, are_free, is_among}
 use Rattle.gb_labels.specs.Things.{modules_of, reads_inside}
 use Rattle.gb_closing_laws.specs.Pairs.{Pairs, IsPair}
 use Rattle.gb_closing_laws.specs.Related.{ReadTypes}

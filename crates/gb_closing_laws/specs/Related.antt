@@ -5,7 +5,7 @@ use Rattle.gb_core.specs.declared.ty.Ty.TheVariants as ty
 use Rattle.gb_core.specs.declared.value.Value.{Value}
 use Rattle.gb_core.specs.declared.value.Value.TheVariants.{Many}
 use Rattle.gb_types.specs.Numbering.{parts_of}
-use Rattle.gb_coupling.specs.WeightedList.{WeightedList}
+use Rattle.gb_dist.specs.WeightedList.{WeightedList}
 use Rattle.gb_terms.specs.declared.op.Read.{Read}
 use Rattle.gb_terms.specs.declared.op.Read.TheVariants.{Program}
 use Rattle.gb_terms.specs.declared.op.Side.TheVariants.{Bound}
@@ -17,8 +17,8 @@ use Rattle.gb_meaning.specs.Memory.{Memory, read}
 use Rattle.gb_meaning.specs.Operators.{entry_of, outcome_type}
 use Rattle.gb_meaning.specs.State.{State, Binding, meaning_in, memory_in}
 use Rattle.gb_meaning.specs.Terms.{read_at}
-use Rattle.gb_holds.specs.Globs.{IsGlobless}
-use Rattle.gb_reads.specs.Reads.{Vars}
+use Rattle.gb_meaning.specs.Globs.{IsGlobless}
+use Rattle.gb_labels.specs.Reads.{Vars}
 use Rattle.gb_laws.specs.Meant.{IsInt, IsReal, IsOfDistributions}
 use Rattle.gb_laws.specs.Typing.{Binder}
 use Rattle.gb_laws.specs.Typing.Binder.{value, index, memory, program}

@@ -9,7 +9,7 @@ ghost use Rattle.gb_meaning.specs.Written.{type_of};
 ghost use Rattle.gb_laws.specs.Context.{IsSettingOf};
 ghost use Rattle.gb_laws.specs.Typing.{Context, IsTyped};
 ghost use Rattle.gb_walk.specs.Clash.{Exclusions};
-ghost use Rattle.gb_reads.specs.Reads.{Vars};
+ghost use Rattle.gb_labels.specs.Reads.{Vars};
 ghost use Rattle.gb_labels.specs.Labels.{Labels};
 ghost use Rattle.gb_labels.specs.Things.{most_labels};
 ghost use Rattle.gb_closing_laws.specs.Pairs.{Pairing};

@@ -2,7 +2,7 @@
 use Rattle.std.proofs.Common.{◌≡◌, Bool, true, false, [], ◌∷◌, map, refl, ap, arith, ◌+◌, ◌*◌}
 use Rattle.std.specs.Prelude.{ℕ, if◌then◌else◌}
 use Rattle.gb_core.specs.declared.value.Value.{Value}
-use Rattle.gb_coupling.specs.WeightedList.{WeightedList, total, weight, bit}
+use Rattle.gb_dist.specs.WeightedList.{WeightedList, total, weight, bit}
 use Rattle.gb_dist.specs.Lists.{kept, restricted}
 use Rattle.gb_dist.specs.Places.{outcomes}
 

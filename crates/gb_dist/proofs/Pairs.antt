@@ -6,8 +6,8 @@ use Rattle.gb_core.specs.declared.refusal.Refused.{Refused}
 use Rattle.gb_core.specs.declared.refusal.Refused.TheVariants.{NoMemory, ReadFault, Script}
 use Rattle.gb_core.specs.declared.value.Value.{Value}
 use Rattle.gb_core.specs.declared.value.Value.TheVariants.{Many}
-use Rattle.gb_coupling.specs.WeightedList.{WeightedList, total, dmap}
-use Rattle.gb_coupling.proofs.Masses.{mass-dmap, total-bind}
+use Rattle.gb_dist.specs.WeightedList.{WeightedList, total, dmap}
+use Rattle.gb_dist.proofs.Masses.{mass-dmap, total-bind}
 use Rattle.gb_num.specs.declared.whole.Overflow.{Overflow}
 use Rattle.gb_num.specs.Operations.{Operation, first_overflow, is_small, operands}
 use Rattle.gb_dist.specs.declared.row.Row.{Row}

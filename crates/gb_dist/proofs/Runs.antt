@@ -5,8 +5,8 @@ use Rattle.std.specs.List.Sorted.{IsNonDecreasingBy}
 use Rattle.std.proofs.lemmas.List.{get_or_default, map-append}
 use Rattle.std.proofs.lemmas.List.Sums.{sum_by-drop_more, sum_by-take-drop}
 use Rattle.gb_core.specs.declared.value.Value.{Value}
-use Rattle.gb_coupling.specs.WeightedList.{WeightedList, mass}
-use Rattle.gb_coupling.proofs.Masses.{mass-append}
+use Rattle.gb_dist.specs.WeightedList.{WeightedList, mass}
+use Rattle.gb_dist.proofs.Masses.{mass-append}
 use Rattle.gb_dist.specs.declared.row.Row.{Row}
 use Rattle.gb_dist.specs.declared.sort.Placed.{Placed}
 use Rattle.gb_dist.specs.Lists.{is_positive}

@@ -5,8 +5,8 @@ use Rattle.std.proofs.Math.Nat.{mul-pos}
 use Rattle.std.proofs.lemmas.Nat.{mul-le}
 use Rattle.std.specs.Prelude.{◌&&◌, nat_lt}
 use Rattle.gb_core.specs.declared.value.Value.{Value}
-use Rattle.gb_coupling.specs.WeightedList.{WeightedList, total, scale}
-use Rattle.gb_coupling.proofs.Masses.{mass-append, mass-scale}
+use Rattle.gb_dist.specs.WeightedList.{WeightedList, total, scale}
+use Rattle.gb_dist.proofs.Masses.{mass-append, mass-scale}
 use Rattle.gb_types.specs.Numbering.{Numbering}
 use Rattle.gb_dist.specs.declared.row.Row.{Row}
 use Rattle.gb_dist.specs.Lists.{kept, is_positive, values_below}

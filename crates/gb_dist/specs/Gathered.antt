@@ -3,7 +3,7 @@ use Rattle.std.specs.Prelude.{◌≡◌, ℕ, None, Result, Ok, Err, List}
 use Rattle.gb_core.specs.declared.refusal.Refused.{Refused}
 use Rattle.gb_core.specs.declared.ty.Ty.{Ty}
 use Rattle.gb_core.specs.declared.value.Value.{Value}
-use Rattle.gb_coupling.specs.WeightedList.{WeightedList}
+use Rattle.gb_dist.specs.WeightedList.{WeightedList}
 use Rattle.gb_num.specs.Operations.{Operation, first_overflow}
 use Rattle.gb_dist.specs.declared.table.Table.{Table}
 use Rattle.gb_dist.specs.Places.{IsGathered}

@@ -1,3 +1,7 @@
+pub mod WeightedList
+pub mod Coupling
+pub mod Existence
+pub mod Examples
 pub mod Gathered
 pub mod Lists
 pub mod Places

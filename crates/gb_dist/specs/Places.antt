@@ -7,7 +7,7 @@ use Rattle.gb_core.specs.declared.ty.Ty.TheFolds.{fold-Ty}
 use Rattle.gb_core.specs.declared.value.Value.{Value}
 use Rattle.gb_types.specs.Numbering.{is_many}
 use Rattle.gb_types.specs.Types.{IsValue, place_of}
-use Rattle.gb_coupling.specs.WeightedList.{WeightedList, mass}
+use Rattle.gb_dist.specs.WeightedList.{WeightedList, mass}
 use Rattle.gb_dist.specs.declared.row.Row.{Row}
 use Rattle.gb_dist.specs.declared.sort.Placed.{Placed}
 use Rattle.gb_dist.specs.Lists.{IsIncreasing}

@@ -5,7 +5,7 @@ use Rattle.gb_core.specs.declared.refusal.Refused.{Refused}
 use Rattle.gb_core.specs.declared.refusal.Refused.TheVariants.{NoMemory, ReadFault, Script}
 use Rattle.gb_core.specs.declared.refusal.Why.TheVariants as why
 use Rattle.gb_core.specs.declared.value.Value.{Value}
-use Rattle.gb_coupling.specs.WeightedList.{WeightedList}
+use Rattle.gb_dist.specs.WeightedList.{WeightedList}
 use Rattle.gb_num.specs.declared.whole.Overflow.{Overflow}
 use Rattle.gb_num.specs.Operations.{Operation, first_overflow, is_small, operands}
 use Rattle.gb_dist.specs.declared.table.Table.{Table}

@@ -3,7 +3,7 @@
 ghost use Rattle.std.specs.Prelude.{◌≡◌, ℕ, Bool, List, map};
 ghost use Rattle.gb_core.specs.declared.ty.Ty.{Ty};
 ghost use Rattle.gb_core.specs.declared.value.Value.{Value};
-ghost use Rattle.gb_coupling.specs.WeightedList.{SameDistribution, WeightedList, dmap, total, weight, weight_at};
+ghost use Rattle.gb_dist.specs.WeightedList.{SameDistribution, WeightedList, dmap, total, weight, weight_at};
 ghost use Rattle.gb_dist.specs.declared.row.Row.{Row};
 ghost use Rattle.gb_dist.specs.Lists.{imaged, kept, restricted};
 ghost use Rattle.gb_dist.specs.Places.{IsGathered, outcomes};

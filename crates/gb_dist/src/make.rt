@@ -2,7 +2,7 @@
 
 ghost use Rattle.std.specs.Prelude.{◌≡◌, ◌≤◌, [], ◌∷◌};
 ghost use Rattle.gb_types.specs.Types.{IsExact, card_of, numbering, size_of};
-ghost use Rattle.gb_coupling.specs.WeightedList.{unit};
+ghost use Rattle.gb_dist.specs.WeightedList.{unit};
 ghost use Rattle.gb_dist.specs.Lists.{coin, uniform};
 ghost use Rattle.gb_dist.specs.Tables.{Gives};
 

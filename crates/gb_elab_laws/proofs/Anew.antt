@@ -20,7 +20,7 @@ use Rattle.gb_steps.specs.declared.step.BodyRule.{BodyRule}
 use Rattle.gb_steps.specs.declared.step.BodyRule.TheVariants as on_bodies
 use Rattle.gb_steps.specs.declared.step.Rule.TheVariants as rule
 use Rattle.gb_script.specs.declared.tree.Node.{Node}
-use Rattle.gb_holds.specs.Declared.{declared}
+use Rattle.gb_meaning.specs.Declared.{declared}
 use Rattle.gb_typing.specs.Modules.{ProcedureType}
 use Rattle.gb_typing.specs.Context.{Context, Frame, procedure, with_own, with_sides}
 use Rattle.gb_typing.specs.Typing.{IsFrame, IsThere, IsTyped, IsForm, before, after}

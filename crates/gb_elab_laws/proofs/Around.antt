@@ -29,7 +29,7 @@ use Rattle.gb_laws.specs.Programs.{HaveTypes, Take, variable_type}
 use Rattle.gb_laws.proofs.Constructors.{tuple_is}
 use Rattle.gb_typing.specs.Context.{Context, erased, of_program, procedure}
 use Rattle.gb_typing.specs.Naming.{NoName}
-use Rattle.gb_models.specs.Speaking.{StatementSpeaks, BodySpeaks}
+use Rattle.gb_elab_laws.specs.Speaking.{StatementSpeaks, BodySpeaks}
 use Rattle.gb_typing.specs.Programs.{IsExpression, IsStatement, EachStatement, HaveVariableTypes}
 use Rattle.gb_elab_laws.specs.Fitting.{AreDeclared, HasGlobals, IsFitting, IsGiven, IsTypeOf}
 use Rattle.gb_elab_laws.proofs.Given.{given_bind, given_is}

@@ -24,7 +24,7 @@ use Rattle.gb_script.specs.declared.head.Head.{Head as Kind}
 use Rattle.gb_script.specs.declared.head.Head.TheVariants as text
 use Rattle.gb_script.specs.declared.tree.Node.{Node}
 use Rattle.gb_script.specs.Tree.{parts_of, place_of}
-use Rattle.gb_holds.specs.Declared.{declared}
+use Rattle.gb_meaning.specs.Declared.{declared}
 use Rattle.gb_typing.specs.Context.{Context, procedure, with_sides}
 use Rattle.gb_typing.specs.Scopes.{context_of, IsTypedScope}
 use Rattle.gb_typing.specs.Sequents.{of_sequent, IsTypedSequent}
@@ -34,8 +34,8 @@ use Rattle.gb_names.specs.Environment.{ambient, relational}
 use Rattle.gb_names.specs.Judgments.{Named, functor_procedure, named_procedure}
 use Rattle.gb_elab.specs.Forms.{elaborated}
 use Rattle.gb_elab_mod.specs.OnPrograms.{Contracts, between_at, between_by, between_functor, between_of, between_words, contracts, params_if, procedures_of, related, result_if, transitive_rule}
-use Rattle.gb_relational.specs.Rows.{IsTypedRule}
-use Rattle.gb_relational.specs.Transitivity.{IsBetween}
+use Rattle.gb_equiv.specs.Rows.{IsTypedRule}
+use Rattle.gb_equiv.specs.Transitivity.{IsBetween}
 use Rattle.gb_elab_laws.proofs.Anew.{fits, params_stand, result_stands}
 use Rattle.gb_elab_laws.proofs.Fits.{goal_procedure}
 use Rattle.gb_elab_laws.proofs.Forms.{elaborated_typed}

@@ -19,7 +19,7 @@ use Rattle.gb_names.specs.Binders.{of_type}
 use Rattle.gb_names.specs.Names.{no_declared, spelled_by}
 use Rattle.gb_names.specs.Types.{type_of as type_of_node}
 use Rattle.gb_laws.specs.Finite.{IsVariableType}
-use Rattle.gb_holds.specs.Declared.{declared}
+use Rattle.gb_meaning.specs.Declared.{declared}
 use Rattle.gb_typing.specs.Formulas.{AreModules, IsBinder, IsKnown}
 use Rattle.gb_typing.specs.Modules.{Modules}
 use Rattle.gb_typing.specs.Programs.{HaveVariableTypes}

@@ -37,8 +37,8 @@ use Rattle.gb_script.specs.declared.head.Head.{Head as Kind}
 use Rattle.gb_script.specs.declared.head.Head.TheVariants as text
 use Rattle.gb_script.specs.declared.tree.Node.{Node}
 use Rattle.gb_script.specs.Tree.{head_of, text_of, parts_of, place_of}
-use Rattle.gb_holds.specs.Declared.{declared}
-use Rattle.gb_holds.specs.Truth.{has_module}
+use Rattle.gb_meaning.specs.Declared.{declared}
+use Rattle.gb_meaning.specs.Truth.{has_module}
 use Rattle.gb_typing.specs.Context.{Context, erased, within}
 use Rattle.gb_laws.proofs.Trees.{out_is}
 use Rattle.gb_meaning.specs.Written.{type_of}
@@ -80,10 +80,10 @@ use Rattle.gb_elab_laws.proofs.Remembered.{IsNamedMemory}
 use Rattle.gb_elab_laws.proofs.AboutNamed.{memory_typed as about_memory}
 use Rattle.gb_elab_laws.proofs.Further.{wider_typed, body_grows, further_stands, there, within_range}
 use Rattle.gb_elab_laws.proofs.Used.{IsNamed, all_hinted_typed, hypothesis_typed, memory_named, used_typed}
-use Rattle.gb_use.specs.Lemmas.{IsKnown}
+use Rattle.gb_amb.specs.Lemmas.{IsKnown}
 use Rattle.gb_elab_laws.specs.Procedures.{AreStated}
-use Rattle.gb_use.specs.Uses.{used_by}
-use Rattle.gb_use.specs.Uses as uses
+use Rattle.gb_amb.specs.Uses.{used_by}
+use Rattle.gb_amb.specs.Uses as uses
 
 -- no module is quantified in front of what is said of some memory
 memory_front : (f : Term) → (out-Term f).head ≡ head.SomeMemory → has_module f ≡ false

@@ -27,7 +27,7 @@ use Rattle.gb_elab_stmt.specs.Targets.{type_of_all, variables_of}
 use Rattle.gb_meaning.specs.Written.{type_of}
 use Rattle.gb_laws.specs.Finite.{IsFinite}
 use Rattle.gb_typing.proofs.Variables.{variable_finite}
-use Rattle.gb_holds.specs.Naming.{AnyName}
+use Rattle.gb_meaning.specs.Naming.{AnyName}
 use Rattle.gb_typing.specs.Naming.{NoName, EachTermNames}
 use Rattle.gb_laws.specs.Programs.{Take}
 use Rattle.gb_typing.specs.Context.{Context, erased, of_program, procedure}

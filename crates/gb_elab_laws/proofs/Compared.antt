@@ -9,7 +9,7 @@ use Rattle.gb_terms.specs.declared.term.Head.{Head}
 use Rattle.gb_terms.specs.declared.term.Head.TheVariants as head
 use Rattle.gb_terms.specs.declared.term.Term.{Term, out-Term}
 use Rattle.gb_terms.specs.Make.{node}
-use Rattle.gb_chances.specs.Chances.{Bounded, Chance, Compared, before_last, bounded_by, bounded_in, bounded_of, chance_at, chance_of, chances_by, chances_in, chances_of, compared_at, compared_of, last, speaks, unless}
+use Rattle.gb_steps.specs.Chances.{Bounded, Chance, Compared, before_last, bounded_by, bounded_in, bounded_of, chance_at, chance_of, chances_by, chances_in, chances_of, compared_at, compared_of, last, speaks, unless}
 use Rattle.gb_meaning.proofs.Nodes.{each_is_node}
 use Rattle.gb_typing.specs.Context.{Context, procedure}
 use Rattle.gb_typing.specs.Typing.{IsThere, IsTyped}

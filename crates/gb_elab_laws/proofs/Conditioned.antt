@@ -18,7 +18,7 @@ use Rattle.gb_steps.specs.declared.step.Rule.{Rule}
 use Rattle.gb_steps.specs.declared.step.Rule.TheVariants as rule
 use Rattle.gb_steps.specs.declared.step.Step.{Step}
 use Rattle.gb_script.specs.declared.tree.Node.{Node}
-use Rattle.gb_holds.specs.Declared.{declared}
+use Rattle.gb_meaning.specs.Declared.{declared}
 use Rattle.gb_typing.specs.Context.{Context, procedure, with_own}
 use Rattle.gb_typing.specs.Goals.{IsGoalOver}
 use Rattle.gb_typing.specs.Scopes.{context_of, IsTypedScope}

@@ -12,7 +12,7 @@ use Rattle.gb_steps.specs.declared.step.BodyRule.TheVariants as on_bodies
 use Rattle.gb_steps.specs.declared.step.ProbabilityRule.TheVariants.{ByEquiv, ByPhoare}
 use Rattle.gb_steps.specs.declared.step.Rule.{Rule}
 use Rattle.gb_steps.specs.declared.step.Rule.TheVariants as rule
-use Rattle.gb_chances.specs.Chances.{Bounded, Compared, bounded_of, chances_of}
+use Rattle.gb_steps.specs.Chances.{Bounded, Compared, bounded_of, chances_of}
 use Rattle.gb_elab_mod.specs.OnPrograms.{by_equiv_rule, by_phoare_rule, by_rule, conditions, related, said_around}
 use Rattle.gb_elab_laws.proofs.Given.{given_bind, given_is}
 

@@ -17,9 +17,9 @@ use Rattle.gb_meaning.specs.Names.{Name}
 use Rattle.gb_meaning.specs.Written.{type_of}
 use Rattle.gb_laws.specs.Finite.{IsVariableType}
 use Rattle.gb_laws.specs.Typing.{OperatorType, IsLiteral}
-use Rattle.gb_holds.specs.Globs.{EachGlob}
+use Rattle.gb_meaning.specs.Globs.{EachGlob}
 use Rattle.gb_typing.specs.Naming.{NoName}
-use Rattle.gb_holds.specs.Declared.{Declarations, Declaration, declaration_of, declared, abstract_type, abbreviation, operator, abstract_operator, module_type, concrete_module, abstract_module, axiom_of, lemma, terminating}
+use Rattle.gb_meaning.specs.Declared.{Declarations, Declaration, declaration_of, declared, abstract_type, abbreviation, operator, abstract_operator, module_type, concrete_module, abstract_module, axiom_of, lemma, terminating}
 use Rattle.gb_typing.specs.Context.{Context}
 use Rattle.gb_typing.specs.Formulas.{with_module}
 use Rattle.gb_typing.specs.Sequents.{of_sequent, with_modules}

@@ -13,8 +13,8 @@ use Rattle.gb_script.specs.declared.head.Head.TheVariants as head
 use Rattle.gb_script.specs.declared.tree.Node.{Node}
 use Rattle.gb_script.specs.Tree.{head_of, text_of, parts_of, place_of}
 use Rattle.gb_meaning.specs.Names.{Name}
-use Rattle.gb_holds.specs.Declared.{for_type, for_value, declared}
-use Rattle.gb_holds.proofs.Lists.{declared-append}
+use Rattle.gb_meaning.specs.Declared.{for_type, for_value, declared}
+use Rattle.gb_meaning.proofs.Lists.{declared-append}
 use Rattle.gb_typing.specs.Context.{Context}
 use Rattle.gb_typing.specs.Scopes.{nothing, context_of, is_declared, IsAbbreviation, AreTypedAfter, IsTypedScope}
 use Rattle.gb_names.specs.Types.{all_given, type_of, type_or_number}
@@ -33,7 +33,7 @@ use Rattle.gb_elab_laws.proofs.Scopes.{typed_after}
 use Rattle.gb_elab_laws.proofs.Types.{spelled_typed}
 use Rattle.gb_elab_laws.proofs.Declared.{declared_in}
 use Rattle.gb_typing.specs.Naming.{NoName}
-use Rattle.gb_models.specs.Speaking.{IsFirmScope, ScopeSpeaks}
+use Rattle.gb_elab_laws.specs.Speaking.{IsFirmScope, ScopeSpeaks}
 use Rattle.gb_elab_laws.specs.Fitting.{AreTypes}
 
 -- an abstract type, a name of a type of values, or a constant

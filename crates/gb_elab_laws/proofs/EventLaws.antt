@@ -20,7 +20,7 @@ use Rattle.gb_steps.specs.declared.step.ProbabilityRule.TheVariants.{ByEvents, W
 use Rattle.gb_steps.specs.declared.step.RewriteRule.TheVariants as rewrite_rule
 use Rattle.gb_steps.specs.declared.step.Rule.{Rule}
 use Rattle.gb_steps.specs.declared.step.Rule.TheVariants as rule
-use Rattle.gb_chances.specs.First.{first_procedure}
+use Rattle.gb_steps.specs.First.{first_procedure}
 use Rattle.gb_names.specs.Environment.{unary}
 use Rattle.gb_elab.specs.Forms.{elaborated}
 use Rattle.gb_elab_mod.specs.OnPrograms.{result_if}

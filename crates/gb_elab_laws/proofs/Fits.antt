@@ -13,8 +13,8 @@ use Rattle.gb_goal.specs.declared.scope.Entry.TheVariants as entry
 use Rattle.gb_goal.specs.declared.sequent.Sequent.{Sequent}
 use Rattle.gb_meaning.specs.Names.{Name}
 use Rattle.gb_meaning.specs.Written.{local_type}
-use Rattle.gb_holds.specs.Declared.{Declarations, declaration_of, declared}
-use Rattle.gb_models.specs.Speaking.{IsFirm, IsFirmScope}
+use Rattle.gb_meaning.specs.Declared.{Declarations, declaration_of, declared}
+use Rattle.gb_elab_laws.specs.Speaking.{IsFirm, IsFirmScope}
 use Rattle.gb_typing.specs.Modules.{ProcedureType}
 use Rattle.gb_laws.specs.Typing.{binder, IsMemory}
 use Rattle.gb_laws.specs.Typing.Binder.{program as module_binder}

@@ -17,7 +17,7 @@ use Rattle.gb_goal.specs.declared.scope.Entry.TheVariants as entry
 use Rattle.gb_meaning.specs.Names.{Name}
 use Rattle.gb_meaning.specs.Written.{local_type}
 use Rattle.gb_laws.specs.Finite.{IsVariableType}
-use Rattle.gb_holds.specs.Declared.{Declarations, concrete_module, declaration_of, declared}
+use Rattle.gb_meaning.specs.Declared.{Declarations, concrete_module, declaration_of, declared}
 use Rattle.gb_typing.specs.Context.{Context}
 use Rattle.gb_typing.specs.Modules.{Modules}
 use Rattle.gb_typing.specs.Programs.{HaveVariableTypes}

@@ -24,8 +24,8 @@ use Rattle.gb_elab_prog.specs.Contexts.{nothing_around, taken, untaken}
 use Rattle.gb_elab_prog.specs.Fresh.{free}
 use Rattle.gb_elab_prog.specs.Modules.{empty_module, member_names, module_given, with_globals, with_member, with_members, with_procedure}
 use Rattle.gb_elab_prog.specs.Procedures.{procedure_by}
-use Rattle.gb_holds.specs.Declared.{declared as declarations}
-use Rattle.gb_holds.specs.Modules.{Procedures}
+use Rattle.gb_meaning.specs.Declared.{declared as declarations}
+use Rattle.gb_meaning.specs.Modules.{Procedures}
 use Rattle.gb_typing.specs.Context.{Context}
 use Rattle.gb_typing.specs.Modules.{ProcedureType, Interface}
 use Rattle.gb_typing.specs.Programs.{HaveVariableTypes, type_of_procedure}
@@ -33,7 +33,7 @@ use Rattle.gb_typing.specs.Scopes.{procedure_types, interface_with, in_module, c
 use Rattle.gb_typing.specs.Modules.{with_interface}
 use Rattle.gb_typing.proofs.Globals.{name_test, or_false}
 use Rattle.gb_typing.specs.Naming.{NoName}
-use Rattle.gb_models.specs.Speaking.{ProceduresSpeak}
+use Rattle.gb_elab_laws.specs.Speaking.{ProceduresSpeak}
 use Rattle.gb_elab_laws.proofs.Given.{given_bind, given_is, if_absent, if_refused, none_of, none_some}
 use Rattle.gb_elab_laws.proofs.Declared.{declared_in}
 use Rattle.gb_elab_laws.proofs.Fits.{declared_globals}

@@ -20,7 +20,7 @@ use Rattle.gb_script.specs.declared.tree.Node.{Node}
 use Rattle.gb_script.specs.Tree.{head_of, text_of, parts_of, place_of}
 use Rattle.gb_meaning.specs.Names.{Name}
 use Rattle.gb_laws.specs.Finite.{IsVariableType}
-use Rattle.gb_holds.specs.Declared.{declared, signature_in}
+use Rattle.gb_meaning.specs.Declared.{declared, signature_in}
 use Rattle.gb_mods.specs.Asked.{signature_of}
 use Rattle.gb_names.specs.Names.{no_declared}
 use Rattle.gb_typing.specs.Formulas.{IsKnown, oracle_in}

@@ -15,7 +15,7 @@ use Rattle.gb_typing.specs.Typing.{IsThere, after}
 use Rattle.gb_typing.proofs.Made.{EachMade, made_node}
 use Rattle.gb_laws.specs.Typing.{IsProbability}
 use Rattle.gb_meaning.specs.Trees.{row}
-use Rattle.gb_holds.specs.Naming.{AnyName}
+use Rattle.gb_meaning.specs.Naming.{AnyName}
 use Rattle.gb_typing.specs.Naming.{NoName, TermNames, TermsName}
 use Rattle.gb_names.specs.declared.setting.Language.TheVariants.{Formula}
 use Rattle.gb_names.specs.Allowed.{has_judgments}

@@ -10,7 +10,7 @@ use Rattle.gb_meaning.specs.Names.{Name}
 use Rattle.gb_laws.proofs.Trees.{out_is}
 use Rattle.gb_typing.specs.Context.{Context}
 use Rattle.gb_typing.specs.Typing.{IsTyped}
-use Rattle.gb_models.specs.Speaking.{BodiesSpeak}
+use Rattle.gb_elab_laws.specs.Speaking.{BodiesSpeak}
 
 pub bodies_speak : (P : Name → Type 0) (c : Context) (f : Term) → IsTyped c f → BodiesSpeak P f
 bodies_speak P c (Term' p (more_of-Head (head.Hoare (Proc r)) end_of-Head) n ts t) w = tt

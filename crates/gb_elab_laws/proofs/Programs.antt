@@ -30,7 +30,7 @@ use Rattle.gb_elab_prog.specs.Procedures.{is_member, untaken, result_type, lacks
 use Rattle.gb_typing.specs.Context.{Context, of_program}
 use Rattle.gb_typing.specs.Programs.{HaveVariableTypes, IsProcedure, type_of_procedure}
 use Rattle.gb_typing.specs.Scopes.{procedure_types}
-use Rattle.gb_holds.specs.Modules.{found as named}
+use Rattle.gb_meaning.specs.Modules.{found as named}
 use Rattle.gb_elab_laws.specs.Fitting.{AreTypes, IsGiven}
 use Rattle.gb_elab_laws.proofs.Given.{given_bind, given_is, if_refused}
 use Rattle.gb_elab_laws.proofs.Types.{spelled_typed}
@@ -38,9 +38,9 @@ use Rattle.gb_typing.proofs.Globals.{name_test, or_false}
 use Rattle.gb_elab_laws.proofs.Typed.{given_from}
 use Rattle.gb_elab_laws.proofs.Leaves.{unit_typed}
 use Rattle.gb_elab_laws.proofs.Shapes.{finite_form}
-use Rattle.gb_holds.specs.Naming.{AnyName}
+use Rattle.gb_meaning.specs.Naming.{AnyName}
 use Rattle.gb_typing.specs.Naming.{NoName, TermNames}
-use Rattle.gb_models.specs.Speaking.{BodySpeaks}
+use Rattle.gb_elab_laws.specs.Speaking.{BodySpeaks}
 use Rattle.gb_elab_laws.proofs.Forms.{elaborated_typed}
 use Rattle.gb_elab_laws.proofs.Around.{IsAround, fits, expression}
 use Rattle.gb_elab_laws.proofs.Stated.{statements_typed}

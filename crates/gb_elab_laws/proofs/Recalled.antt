@@ -16,7 +16,7 @@ use Rattle.gb_terms.specs.declared.term.Head.TheVariants as head
 use Rattle.gb_terms.specs.declared.term.Head.TheVariants.{Proc, Body'}
 use Rattle.gb_goal.specs.declared.sequent.Hyp.{Hyp}
 use Rattle.gb_goal.specs.declared.sequent.Sequent.{Sequent}
-use Rattle.gb_holds.specs.Truth.{last_has_module, Choice}
+use Rattle.gb_meaning.specs.Truth.{last_has_module, Choice}
 use Rattle.gb_meaning.specs.Commands.{terms_in}
 use Rattle.gb_laws.proofs.Trees.{out_is}
 use Rattle.gb_names.specs.Environment.{Name}

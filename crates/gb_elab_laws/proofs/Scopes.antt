@@ -9,8 +9,8 @@ use Rattle.gb_goal.specs.declared.sequent.Sequent.{Sequent}
 use Rattle.gb_goal.specs.Scope as scope
 use Rattle.gb_script.specs.declared.tree.Node.{Node}
 use Rattle.gb_meaning.specs.Names.{Name}
-use Rattle.gb_holds.specs.Declared.{Declarations, declared, abstract_module, concrete_module, lemma}
-use Rattle.gb_holds.proofs.Lists.{declared-append}
+use Rattle.gb_meaning.specs.Declared.{Declarations, declared, abstract_module, concrete_module, lemma}
+use Rattle.gb_meaning.proofs.Lists.{declared-append}
 use Rattle.gb_typing.specs.Context.{Context}
 use Rattle.gb_typing.specs.Formulas.{IsBinder}
 use Rattle.gb_typing.specs.Sequents.{IsTypedSequent}

@@ -8,7 +8,7 @@ use Rattle.gb_core.specs.declared.ty.Ty.TheOpen as layer
 use Rattle.gb_core.specs.declared.ty.Ty.TheViews.{roll-out-Ty}
 use Rattle.gb_meaning.specs.Operators.{outcome_type, key_type}
 use Rattle.gb_meaning.specs.Trees.{distributions, options}
-use Rattle.gb_holds.specs.Globs.{EachGlob, EachGlobIn}
+use Rattle.gb_meaning.specs.Globs.{EachGlob, EachGlobIn}
 use Rattle.gb_typing.specs.Naming.{NoName}
 use Rattle.gb_laws.specs.Finite.{AreFiniteWith, IsFiniteWith, IsFinite, IsVariableType}
 use Rattle.gb_laws.specs.Operators.{row, items, parts_in, maps, AreFinite, IsDistributionType, IsOptionType, IsMapType, entry_type}

@@ -6,9 +6,9 @@ use Rattle.gb_terms.specs.declared.term.Cmd.{items-the_row-Instr, items_hidden-t
 use Rattle.gb_terms.specs.declared.term.Term.{Term, Row_of-Term, end_of-Term, more_of-Term, items-the_row-Term, items_hidden-the_row-Term-0}
 use Rattle.gb_terms.specs.declared.term.Head.TheBlock as B
 use Rattle.gb_meaning.specs.Names.{Name}
-use Rattle.gb_holds.specs.Naming.{AnyName}
+use Rattle.gb_meaning.specs.Naming.{AnyName}
 use Rattle.gb_typing.specs.Naming.{TermsName, EachTermNames}
-use Rattle.gb_models.specs.Speaking.{StatementsSpeak, BodySpeaks, ProceduresSpeak}
+use Rattle.gb_elab_laws.specs.Speaking.{StatementsSpeak, BodySpeaks, ProceduresSpeak}
 use mathlib.Core.Former.{Count}
 
 module _ (P : Name → Type 0) where

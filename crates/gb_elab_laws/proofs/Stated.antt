@@ -38,7 +38,7 @@ use Rattle.gb_elab_stmt.specs.Targets.{targets, type_of_all, variables_of}
 use Rattle.gb_elab_prog.specs.Contexts.{nothing_around}
 use Rattle.gb_laws.specs.Finite.{IsFinite, IsVariableType}
 use Rattle.gb_typing.proofs.Variables.{variable_finite}
-use Rattle.gb_holds.specs.Naming.{AnyName}
+use Rattle.gb_meaning.specs.Naming.{AnyName}
 use Rattle.gb_typing.specs.Naming.{NoName, TermNames}
 use Rattle.gb_laws.specs.Programs.{Take, variable_type}
 use Rattle.gb_typing.specs.Context.{Context, erased, of_program}

@@ -18,12 +18,12 @@ use Rattle.gb_script.specs.Tree.{head_of, text_of, parts_of, place_of}
 use Rattle.gb_meaning.specs.Names.{Name}
 use Rattle.gb_meaning.specs.Written.{type_of}
 use Rattle.gb_typing.specs.Programs.{HaveVariableTypes}
-use Rattle.gb_holds.specs.Naming.{AnyName}
+use Rattle.gb_meaning.specs.Naming.{AnyName}
 use Rattle.gb_typing.specs.Naming.{NoName, EachGlobOf, TermNames}
 use Rattle.gb_names.specs.declared.setting.Language.TheVariants.{Formula}
-use Rattle.gb_models.specs.Speaking.{IsFirmScope}
-use Rattle.gb_holds.specs.Declared.{declared}
-use Rattle.gb_holds.specs.Truth.{has_module}
+use Rattle.gb_elab_laws.specs.Speaking.{IsFirmScope}
+use Rattle.gb_meaning.specs.Declared.{declared}
+use Rattle.gb_meaning.specs.Truth.{has_module}
 use Rattle.gb_typing.specs.Context.{Context}
 use Rattle.gb_typing.specs.Typing.{IsForm}
 use Rattle.gb_typing.specs.Sequents.{of_sequent, IsTypedSequent}

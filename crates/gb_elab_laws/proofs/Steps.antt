@@ -25,7 +25,7 @@ use Rattle.gb_script.specs.declared.head.Head.{Head as Kind}
 use Rattle.gb_script.specs.declared.head.Head.TheVariants as text
 use Rattle.gb_script.specs.declared.tree.Node.{Node}
 use Rattle.gb_script.specs.Tree.{head_of, text_of, parts_of, place_of}
-use Rattle.gb_chances.specs.First.{first_procedure}
+use Rattle.gb_steps.specs.First.{first_procedure}
 use Rattle.gb_elab_mod.specs.Multiples.{hypothesis_at, multiples, position}
 use Rattle.gb_elab_mod.specs.OnPrograms.{acts, both_rule, by_rule, call_rule, case_of_bodies, chance_rule, conseq_rule, coupling_rule, couplings, cut_of, drawing_rule, entering_rule, functions_of, judges_chance, of_bodies_rule, plain_rule, seq_rule}
 use Rattle.gb_elab_mod.specs.Steps.{case_of_conclusion, conclusion_rule, formed, sided_case_rule, splitting_rule, step_given, typed_rule, witness_rule}

@@ -13,8 +13,8 @@ use Rattle.gb_meaning.specs.Trees.{row}
 use Rattle.gb_meaning.specs.Written.{type_of}
 use Rattle.gb_meaning.proofs.Nodes.{term_is_node}
 use Rattle.gb_laws.specs.Plain.{HeadIsPlain, IsPlain, AllPlain}
-use Rattle.gb_holds.specs.Globs.{EachGlob}
-use Rattle.gb_holds.specs.Naming.{AnyName}
+use Rattle.gb_meaning.specs.Globs.{EachGlob}
+use Rattle.gb_meaning.specs.Naming.{AnyName}
 use Rattle.gb_typing.specs.Naming.{NoName, HeadNames, TermNames, TermsName}
 use Rattle.gb_laws.specs.Operators.{IsOperator}
 use Rattle.gb_laws.specs.Typing.{IsHead}

@@ -31,7 +31,7 @@ use Rattle.gb_script.specs.declared.tree.Node.{Node}
 use Rattle.gb_script.specs.Tree.{head_of, text_of, parts_of, place_of}
 use Rattle.gb_meaning.proofs.Nodes.{each_is_node}
 use Rattle.gb_laws.specs.Finite.{IsFinite}
-use Rattle.gb_holds.specs.Declared.{declaration_of, declared}
+use Rattle.gb_meaning.specs.Declared.{declaration_of, declared}
 use Rattle.gb_laws.specs.Programs.{HaveFiniteTypes}
 use Rattle.gb_laws.specs.Typing.{IsSide}
 use Rattle.gb_laws.specs.Typing.Binder.{memory}
@@ -46,11 +46,11 @@ use Rattle.gb_amb.specs.Closed.{IsAmong}
 use Rattle.gb_amb.proofs.Cases.{conclusion_formula}
 use Rattle.gb_amb.proofs.Wider.{small, wider}
 use Rattle.gb_amb.specs.Witness.{at_memory}
-use Rattle.gb_use.specs.Instances.{Argument as UsedArgument, IsArgument, Says, at_argument}
-use Rattle.gb_use.specs.Instances.Argument.{of_value, of_memory}
-use Rattle.gb_use.specs.Lemmas.{AreBindersOf, AreFinite, for_binders, for_each_memory, for_each_value, generalized, IsKnown, IsLemmaIn, IsOfStates}
-use Rattle.gb_use.proofs.Binders.{binders_typed, framed}
-use Rattle.gb_use.proofs.Foralls.{argument_typed}
+use Rattle.gb_amb.specs.Instances.{Argument as UsedArgument, IsArgument, Says, at_argument}
+use Rattle.gb_amb.specs.Instances.Argument.{of_value, of_memory}
+use Rattle.gb_amb.specs.Lemmas.{AreBindersOf, AreFinite, for_binders, for_each_memory, for_each_value, generalized, IsKnown, IsLemmaIn, IsOfStates}
+use Rattle.gb_amb.proofs.Binders.{binders_typed, framed}
+use Rattle.gb_amb.proofs.Foralls.{argument_typed}
 use Rattle.gb_elab.specs.Forms.{elaborated}
 use Rattle.gb_names.specs.Environment.{ambient}
 use Rattle.gb_elab_mod.specs.OtherLocals.{is_local, reads_other_locals}

@@ -15,7 +15,7 @@ use Rattle.gb_goal.specs.Scope.{Declarations, abstract_of, constant_named, modul
 use Rattle.gb_meaning.specs.Names.{Name}
 use Rattle.gb_meaning.specs.Written.{type_of, local_type}
 use Rattle.gb_laws.specs.Plain.{IsPlain}
-use Rattle.gb_holds.specs.Naming.{AnyName}
+use Rattle.gb_meaning.specs.Naming.{AnyName}
 use Rattle.gb_typing.specs.Naming.{NoName, TermNames}
 use Rattle.gb_laws.specs.Finite.{AreFiniteWith, IsFiniteWith, IsVariableType}
 use Rattle.gb_laws.specs.Operators.{item}

@@ -1,3 +1,10 @@
+pub mod Idle
+pub mod Falsehood
+pub mod Promised
+pub mod Speaking
+pub mod Members
+pub mod Agree
+pub mod Good
 pub mod Fitting
 pub mod Known
 pub mod Procedures

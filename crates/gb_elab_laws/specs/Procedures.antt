@@ -5,13 +5,13 @@ use Rattle.gb_goal.specs.Goal.{judges_bodies}
 use Rattle.gb_goal.specs.declared.sequent.Sequent.{Sequent}
 use Rattle.gb_goal.specs.Scope as scope
 use Rattle.gb_goal.specs.Scope.{lemma_of}
-use Rattle.gb_holds.specs.Declared.{declared}
-use Rattle.gb_holds.specs.Truth.{has_module}
+use Rattle.gb_meaning.specs.Declared.{declared}
+use Rattle.gb_meaning.specs.Truth.{has_module}
 use Rattle.gb_typing.specs.Naming.{NoName}
 use Rattle.gb_meaning.specs.Names.{Name}
 use Rattle.gb_typing.specs.Sequents.{IsTypedSequent}
 use Rattle.gb_typing.specs.Scopes.{context_of}
-use Rattle.gb_models.specs.Speaking.{GoalSpeaks}
+use Rattle.gb_elab_laws.specs.Speaking.{GoalSpeaks}
 
 -- A goal without hypotheses, whose conclusion is no judgment on bodies and quantifies over no module in front. Its context may have
 -- modules; where it has none, the goal speaks of no module's globals together.

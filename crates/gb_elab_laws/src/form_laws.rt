@@ -13,7 +13,7 @@ ghost use Rattle.gb_goal.specs.Scope as scope;
 ghost use Rattle.gb_goal.specs.Scope.{module_of};
 ghost use Rattle.gb_meaning.specs.Names.{Name};
 ghost use Rattle.gb_goal.specs.Answers.Answer.{given};
-ghost use Rattle.gb_holds.specs.Declared.{declared};
+ghost use Rattle.gb_meaning.specs.Declared.{declared};
 ghost use Rattle.gb_laws.specs.Finite.{IsFiniteWith};
 ghost use Rattle.gb_typing.specs.Programs.{HaveVariableTypes};
 ghost use Rattle.gb_laws.specs.Typing.Binder.{value};

@@ -19,7 +19,7 @@ ghost use Rattle.gb_steps.specs.Told.{told};
 ghost use Rattle.gb_steps.specs.declared.step.Step.{Step};
 ghost use Rattle.gb_goal.specs.Answers.Answer.{given};
 ghost use Rattle.gb_goal.specs.Goal.{goal_of};
-ghost use Rattle.gb_holds.specs.Declared.{declared};
+ghost use Rattle.gb_meaning.specs.Declared.{declared};
 ghost use Rattle.gb_typing.specs.Context.{Context, frame_of, procedure, with_own};
 ghost use Rattle.gb_typing.specs.Typing.{IsForm, IsTyped, after};
 ghost use Rattle.gb_typing.specs.Sequents.{of_sequent, IsTypedSequent};
@@ -31,12 +31,12 @@ ghost use Rattle.gb_elab_laws.specs.Procedures.{AreStated};
 ghost use Rattle.gb_elab_laws.specs.Reading.{IsOuter, StandIn};
 ghost use Rattle.gb_bodies.specs.Rows as bodies;
 ghost use Rattle.gb_pr.specs.Rows as probabilities;
-ghost use Rattle.gb_relational.specs.Rows.{IsTypedRule};
+ghost use Rattle.gb_equiv.specs.Rows.{IsTypedRule};
 ghost use Rattle.gb_call_both.specs.Rows as calls;
 ghost use Rattle.gb_adv.specs.Rows as adversaries;
 ghost use Rattle.gb_amb.specs.Steps.{IsTypedStep};
-ghost use Rattle.gb_use.specs.Lemmas.{IsKnown};
-ghost use Rattle.gb_use.specs.Uses as uses;
+ghost use Rattle.gb_amb.specs.Lemmas.{IsKnown};
+ghost use Rattle.gb_amb.specs.Uses as uses;
 
 /// The locals that a well-typed term reads through the own memory, the left or the right one are locals of this memory.
 pub fn locals_read()

@@ -34,7 +34,7 @@ use Rattle.gb_goal.specs.Goal.Code.{body, procedure}
 use Rattle.gb_goal.specs.Goal.Goal.{hoare, phoare, equiv}
 use Rattle.gb_steps.specs.declared.step.ProbabilityRule.TheVariants as probability_rule
 use Rattle.gb_steps.specs.declared.step.Conditions.{Conditions}
-use Rattle.gb_chances.specs.Chances.{Bounded, Compared, bounded_of, chances_of}
+use Rattle.gb_steps.specs.Chances.{Bounded, Compared, bounded_of, chances_of}
 use Rattle.gb_steps.specs.declared.step.RelationalRule.{RelationalRule}
 use Rattle.gb_steps.specs.declared.step.RelationalRule.TheVariants as relational_rule
 use Rattle.gb_goal.specs.Interfaces.{ProcedureType, procedure_type}

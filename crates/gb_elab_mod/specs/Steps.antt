@@ -22,7 +22,7 @@ use Rattle.gb_steps.specs.declared.step.Calls.{Calls}
 use Rattle.gb_steps.specs.declared.step.Calls.TheVariants as calls
 use Rattle.gb_goal.specs.Goal.{goal_of}
 use Rattle.gb_steps.specs.declared.step.ProbabilityRule.TheVariants as probability_rule
-use Rattle.gb_chances.specs.First.{first_procedure}
+use Rattle.gb_steps.specs.First.{first_procedure}
 use Rattle.gb_steps.specs.declared.step.Step.{Step}
 use Rattle.gb_steps.specs.declared.step.RewriteRule.TheVariants as rewrite_rule
 use Rattle.gb_steps.specs.declared.step.EventLaw.TheVariants as event_law

@@ -1,11 +1,10 @@
 // The typing of the laws of events.
 
 ghost use Rattle.gb_goal.specs.Answers.{Answers};
-ghost use Rattle.gb_chances.specs.First.{first_procedure};
+ghost use Rattle.gb_steps.specs.First.{first_procedure};
 ghost use Rattle.gb_elab_mod.specs.Steps.{event_law_rule, splitting_rule};
 
 use crate::contract::said_after;
-use gb_chances::first::first_procedure;
 use gb_core::name::Name;
 use gb_core::place::Place;
 use gb_core::refusal::Refused;
@@ -14,6 +13,7 @@ use gb_goal::scope::Scope;
 use gb_goal::sequent::Sequent;
 use gb_names::refusals::not_built;
 use gb_script::tree::Node;
+use gb_steps::first::first_procedure;
 use gb_steps::step::{BodyRule, EventLaw, ProbabilityRule, RewriteRule, Rule};
 use gb_terms::op::Rel;
 use std::alloc::Global;

@@ -83,6 +83,7 @@ fn claimed(alloc: Global, scope: &Scope, bound: Bound, form: &Node) -> Result<Se
     let (around, modules) = context_of(alloc, bound)?;
     let at = Setting::statement(scope, &around);
     let conclusion = small(typed(alloc, &at, &[], form, Some(&Ty::Bool))?)?;
+    drop(at);
     let modules = SharedItems::new(alloc, modules)?;
     let mut stated = around;
     stated.conclusion = conclusion;

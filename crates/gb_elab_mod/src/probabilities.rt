@@ -1,11 +1,10 @@
 // The typing of `byphoare` and `byequiv`, which go from probabilities to judgments.
 
 ghost use Rattle.gb_goal.specs.Answers.{Answers};
-ghost use Rattle.gb_chances.specs.Chances.{bounded_of, chances_of};
+ghost use Rattle.gb_steps.specs.Chances.{bounded_of, chances_of};
 ghost use Rattle.gb_elab_mod.specs.OnPrograms.{by_equiv_rule, by_phoare_rule, by_rule};
 
 use crate::contract::{Said, related, said_around};
-use gb_chances::chances::{bounded_of, chances_of};
 use gb_core::name::Name;
 use gb_core::place::Place;
 use gb_core::refusal::Refused;
@@ -13,6 +12,7 @@ use gb_goal::scope::Scope;
 use gb_goal::sequent::Sequent;
 use gb_names::refusals::not_built;
 use gb_script::tree::Node;
+use gb_steps::chances::{bounded_of, chances_of};
 use gb_steps::step::{BodyRule, Conditions, ProbabilityRule, Rule};
 use std::alloc::Global;
 

@@ -6,7 +6,7 @@ use Rattle.gb_core.specs.declared.value.Card.TheVariants.{Exact, Above}
 use Rattle.gb_terms.specs.declared.term.Term.{Term}
 use Rattle.gb_terms.specs.declared.term.Head.{Head}
 use Rattle.gb_terms.specs.declared.term.Head.TheVariants as head
-use Rattle.gb_reads.specs.Reads.{reads_of}
+use Rattle.gb_labels.specs.Reads.{reads_of}
 
 abbrev pub Tys : Type 0
 Tys = List Ty

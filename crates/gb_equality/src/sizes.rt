@@ -7,11 +7,11 @@ ghost use Rattle.gb_types.specs.Types.{all_true, is_finite, numbering, size_of, 
 ghost use Rattle.gb_meaning.specs.Operators.{outcome_type};
 ghost use Rattle.gb_equality.specs.Sizes.{of_memory, read_by_only, greater};
 
+use gb_closing::counted::card_at;
 use gb_closing::linked::Variable;
 use gb_core::ty::Ty;
 use gb_core::value::Card;
-use gb_members::counted::card_at;
-use gb_reads::reads::{TypedVar, reads};
+use gb_labels::reads::{TypedVar, reads};
 use gb_terms::term::{Head, Term};
 use gb_types::size::{MANY, is_finite, size};
 use std::alloc::{AllocError, Global};

@@ -11,9 +11,9 @@ use Rattle.gb_terms.specs.declared.op.Side.TheVariants as side
 use Rattle.gb_terms.specs.declared.term.Term.{Term}
 use Rattle.gb_terms.specs.declared.term.Head.TheVariants as head
 use Rattle.gb_terms.specs.declared.term.Instr.{Instr}
-use Rattle.gb_coupling.specs.WeightedList.{WeightedList, Every, IsInSupport}
-use Rattle.gb_coupling.proofs.Entries.{Every-bind, Every-dmap, Every_of_On}
-use Rattle.gb_coupling.proofs.Indicators.{On_of_support}
+use Rattle.gb_dist.specs.WeightedList.{WeightedList, Every, IsInSupport}
+use Rattle.gb_dist.proofs.Entries.{Every-bind, Every-dmap, Every_of_On}
+use Rattle.gb_dist.proofs.Indicators.{On_of_support}
 use Rattle.gb_meaning.specs.Memory.{Memory, write}
 use Rattle.gb_meaning.specs.Meanings.{truth, value_in, weights_in}
 use Rattle.gb_meaning.specs.Setting.{Setting}
@@ -41,7 +41,7 @@ use Rattle.gb_typing.proofs.Fitting.{fits_reframed, state_at}
 use Rattle.gb_goal.specs.Answers.Answer.{given}
 use Rattle.gb_goal.specs.Goal.{Goal}
 use Rattle.gb_goal.specs.Scope.{Declarations}
-use Rattle.gb_holds.specs.Declared.{declared}
+use Rattle.gb_meaning.specs.Declared.{declared}
 use Rattle.gb_mods.specs.Exclusions.{exclusions}
 use Rattle.gb_adversaries.proofs.KeptOff.{kept_off}
 use Rattle.gb_goal.specs.Goal.Code.{body}

@@ -15,10 +15,10 @@ use Rattle.gb_terms.specs.declared.op.Side.TheVariants as side
 use Rattle.gb_terms.specs.declared.term.Term.{Term}
 use Rattle.gb_terms.specs.declared.term.Head.TheVariants as head
 use Rattle.gb_terms.specs.declared.term.Instr.{Instr}
-use Rattle.gb_coupling.specs.WeightedList.{WeightedList, weight_at, IsInSupport}
-use Rattle.gb_coupling.specs.Coupling.{Coupling}
-use Rattle.gb_coupling.proofs.Basic.{coupling_dmap}
-use Rattle.gb_coupling.proofs.Bijection.{coupling_bijection}
+use Rattle.gb_dist.specs.WeightedList.{WeightedList, weight_at, IsInSupport}
+use Rattle.gb_dist.specs.Coupling.{Coupling}
+use Rattle.gb_dist.proofs.Basic.{coupling_dmap}
+use Rattle.gb_dist.proofs.Bijection.{coupling_bijection}
 use Rattle.gb_meaning.specs.Values.{has}
 use Rattle.gb_meaning.specs.Memory.{Memory, write}
 use Rattle.gb_meaning.specs.Meanings.{truth, value_in, weights_in}
@@ -49,7 +49,7 @@ use Rattle.gb_typing.proofs.Fitting.{fits_reframed, state_between}
 use Rattle.gb_goal.specs.Answers.Answer.{given}
 use Rattle.gb_goal.specs.Goal.{Goal}
 use Rattle.gb_goal.specs.Scope.{Declarations}
-use Rattle.gb_holds.specs.Declared.{declared}
+use Rattle.gb_meaning.specs.Declared.{declared}
 use Rattle.gb_mods.specs.Exclusions.{exclusions}
 use Rattle.gb_adversaries.proofs.KeptOff.{kept_off}
 use Rattle.gb_goal.specs.Goal.Code.{body, procedure}

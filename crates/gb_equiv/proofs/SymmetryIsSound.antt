@@ -1,7 +1,7 @@
 -- `symmetry` is sound.
 use Rattle.std.proofs.Common.{◌≡◌, [], ◌∷◌, sym, ◌∙◌}
 use Rattle.gb_core.specs.declared.refusal.Why.TheVariants.{Shape}
-use Rattle.gb_coupling.proofs.Basic.{coupling_weakening, coupling_symmetry}
+use Rattle.gb_dist.proofs.Basic.{coupling_weakening, coupling_symmetry}
 use Rattle.gb_meaning.specs.State.{between}
 use Rattle.gb_meaning.specs.Judgments.{IsTrueUnder}
 use Rattle.gb_goal.specs.Goal.{Code}

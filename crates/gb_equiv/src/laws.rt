@@ -3,7 +3,7 @@
 ghost use Rattle.std.specs.Prelude.{List};
 ghost use Rattle.gb_terms.specs.declared.term.Term.{Term};
 ghost use Rattle.gb_goal.specs.Scope.{Declarations};
-ghost use Rattle.gb_holds.specs.Declared.{declared};
+ghost use Rattle.gb_meaning.specs.Declared.{declared};
 ghost use Rattle.gb_typing.specs.Context.{Context};
 ghost use Rattle.gb_typing.specs.Rules.{IsSoundRuleIn};
 ghost use Rattle.gb_typing.specs.Scopes.{IsTypedScope};

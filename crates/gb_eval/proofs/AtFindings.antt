@@ -14,7 +14,7 @@ use Rattle.gb_types.specs.Numbering.{parts_of, number_of, first_or}
 use Rattle.gb_types.specs.Types.{card_of}
 use Rattle.gb_terms.specs.declared.op.Op.{Op}
 use Rattle.gb_terms.specs.declared.op.Op.TheVariants as op
-use Rattle.gb_coupling.specs.WeightedList.{unit}
+use Rattle.gb_dist.specs.WeightedList.{unit}
 use Rattle.gb_num.specs.Fractions.{Fraction, IsSame, plus, minus, times, over, absolute, of_whole, reduced}
 use Rattle.gb_num.specs.Fractions as fractions
 use Rattle.gb_num.specs.Operations.{Operation, is_small, product_of, sum_of, difference_of, crossings, plus_steps, minus_steps, times_steps, over_steps}

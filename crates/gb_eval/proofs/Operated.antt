@@ -15,7 +15,7 @@ use Rattle.gb_meaning.specs.State.{State, Binding, closed}
 use Rattle.gb_meaning.specs.State.Binding.{value}
 use Rattle.gb_meaning.specs.Terms.{Part, parts, quiet, val}
 use Rattle.gb_laws.specs.Plain.{IsPlain, AllPlain, HeadIsPlain}
-use Rattle.gb_reads.proofs.Memories.{all_apart}
+use Rattle.gb_labels.proofs.Memories.{all_apart}
 use Rattle.gb_eval.specs.declared.env.Bound.{Bound}
 use Rattle.gb_eval.specs.Script.{body_named, made_of}
 use Rattle.gb_eval.specs.Findings.{Operators, no_operator}

@@ -23,7 +23,7 @@ use Rattle.gb_eval.specs.declared.answer.Stop.TheVariants as stop
 use Rattle.gb_eval.specs.Findings.{of_truth, collected, fraction_in, value_in, Stops}
 use Rattle.gb_eval.specs.Known.{is_tuple}
 use Rattle.gb_eval.specs.Eval.{Part, in_memories, in_memory, memories_of, number_of_memories, at_three, image_of, images, bound_at, mapped, truth_under, next_truth, next_sum, over_values, quantified, summed, event, measured, narrowed, operated, restricted, table_under, tuple, weighed}
-use Rattle.gb_reads.specs.Reads.{Vars}
+use Rattle.gb_labels.specs.Reads.{Vars}
 use Rattle.gb_eval.proofs.Stops.{leads_on, passes, stops_as}
 use Rattle.gb_eval.specs.declared.answer.Answer.{Answer}
 use Rattle.gb_eval.specs.declared.answer.Answer.TheVariants as answer
@@ -34,8 +34,8 @@ use Rattle.gb_num.specs.Fractions.{Fraction, of_whole}
 use Rattle.gb_num.proofs.Sizes.{small, large}
 use Rattle.gb_types.specs.Numbering.{parts_of, key_of, first_or}
 use Rattle.gb_core.specs.declared.value.Value.TheVariants.{Num}
-use Rattle.gb_coupling.specs.WeightedList.{WeightedList, bit, bit_of_decision, indicator, weight_at}
-use Rattle.gb_coupling.proofs.Masses.{mass-same}
+use Rattle.gb_dist.specs.WeightedList.{WeightedList, bit, bit_of_decision, indicator, weight_at}
+use Rattle.gb_dist.proofs.Masses.{mass-same}
 use mathlib.Core.Bool.{beq}
 
 -- a test that decides equality of values is the test of equality

@@ -18,9 +18,9 @@ use Rattle.gb_meaning.specs.Memory.{Memory}
 use Rattle.gb_meaning.specs.Values.{Types}
 use Rattle.gb_meaning.proofs.Types.{values_finite}
 use Rattle.gb_walk.specs.Clash.{Exclusions}
-use Rattle.gb_reads.specs.Reads.{Vars, are_free}
-use Rattle.gb_reads.specs.Memories.{AreKeptApart, AreOf, AreReadable, HaveValues, read_all}
-use Rattle.gb_reads.proofs.Memories.{of_types, exist}
+use Rattle.gb_labels.specs.Reads.{Vars, are_free}
+use Rattle.gb_labels.specs.Memories.{AreKeptApart, AreOf, AreReadable, HaveValues, read_all}
+use Rattle.gb_labels.proofs.Memories.{of_types, exist}
 use Rattle.gb_eval.specs.Findings.{Comes, ◌>>=◌, over}
 use Rattle.gb_eval.specs.Findings.Comes.{found, unknown, overflow}
 use Rattle.gb_eval.specs.Eval.{memories_of, next_truth}

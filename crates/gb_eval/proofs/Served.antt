@@ -10,9 +10,9 @@ use Rattle.gb_walk.specs.Layers.{seen_by, where_last}
 use Rattle.gb_meaning.specs.Values.{Types}
 use Rattle.gb_meaning.specs.Setting.{Setting}
 use Rattle.gb_meaning.specs.State.{State}
-use Rattle.gb_reads.specs.declared.reads.TypedVar.{TypedVar}
-use Rattle.gb_reads.specs.Reads.{Vars, each_reads, head_reads, inside, is_among, joined, noted, reads_at, reads_of, with_new}
-use Rattle.gb_reads.specs.Memories.{AreReadable, IsReadable}
+use Rattle.gb_labels.specs.declared.reads.TypedVar.{TypedVar}
+use Rattle.gb_labels.specs.Reads.{Vars, each_reads, head_reads, inside, is_among, joined, noted, reads_at, reads_of, with_new}
+use Rattle.gb_labels.specs.Memories.{AreReadable, IsReadable}
 use Rattle.gb_eval.specs.declared.env.ReadValue.{ReadValue}
 use Rattle.gb_eval.specs.Eval.{Environment, Part, eval_all}
 use Rattle.gb_eval.specs.Meant.{AllGiven, AreGiven, is_given, is_given_at}

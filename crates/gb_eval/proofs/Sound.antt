@@ -11,10 +11,10 @@ use Rattle.gb_core.specs.declared.value.Card.TheVariants.{Exact, Above}
 use Rattle.gb_core.specs.declared.var.Var.{Var}
 use Rattle.gb_types.specs.Numbering.{parts_of}
 use Rattle.gb_types.specs.Types.{value_at, card_of}
-use Rattle.gb_reads.specs.Reads.{are_free}
-use Rattle.gb_reads.specs.Held as held
-use Rattle.gb_reads.specs.Memories.{AreKeptApart, AreReadable, IsHeldBy, read_all}
-use Rattle.gb_reads.proofs.Memories.{all_held, known_value}
+use Rattle.gb_labels.specs.Reads.{are_free}
+use Rattle.gb_labels.specs.Held as held
+use Rattle.gb_labels.specs.Memories.{AreKeptApart, AreReadable, IsHeldBy, read_all}
+use Rattle.gb_labels.proofs.Memories.{all_held, known_value}
 use Rattle.gb_terms.specs.declared.op.Op.{Op}
 use Rattle.gb_terms.specs.declared.op.Op.TheVariants as op
 use Rattle.gb_terms.specs.declared.op.Side.TheVariants as side
@@ -23,8 +23,8 @@ use Rattle.gb_terms.specs.declared.op.Read.TheVariants.{Logical, Program}
 use Rattle.gb_terms.specs.declared.term.Term.{Term, Term', Row_of-Term, end_of-Term, more_of-Term, end_of-Head, more_of-Head}
 use Rattle.gb_terms.specs.declared.term.Head.{Head}
 use Rattle.gb_terms.specs.declared.term.Head.TheVariants as head
-use Rattle.gb_coupling.specs.WeightedList.{WeightedList, dmap, mass, weight, total, bit, scale}
-use Rattle.gb_coupling.proofs.Masses.{mass-scale}
+use Rattle.gb_dist.specs.WeightedList.{WeightedList, dmap, mass, weight, total, bit, scale}
+use Rattle.gb_dist.proofs.Masses.{mass-scale}
 use Rattle.gb_num.specs.Fractions.{Fraction, IsSame, plus}
 use Rattle.gb_num.specs.Operations.{product_of, plus_steps}
 use Rattle.gb_dist.specs.Lists as lists

@@ -20,8 +20,8 @@ use Rattle.gb_meaning.proofs.Types.{values_finite}
 use Rattle.gb_eval.specs.Findings.{Finding, value_in}
 use Rattle.gb_eval.specs.Findings.Finding.{value, whole, fraction, table}
 use Rattle.gb_eval.specs.Findings.Comes.{found}
-use Rattle.gb_maps.specs.Keys.{are_keys, is_among, is_key, is_of_numbers}
-use Rattle.gb_maps.proofs.Places.{exact_type}
+use Rattle.gb_labels.specs.Keys.{are_keys, is_among, is_key, is_of_numbers}
+use Rattle.gb_labels.proofs.Places.{exact_type}
 use Rattle.gb_eval.specs.Operators.{is_map, updated}
 use Rattle.gb_eval.specs.Meant.{IsFound, Means}
 use Rattle.gb_eval.proofs.Truths.{Finds, then_finds, if_finds, finds_means}

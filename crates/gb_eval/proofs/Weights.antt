@@ -3,7 +3,7 @@ use Rattle.std.proofs.Common.{◌≡◌, ℕ, zero, suc, ◌<◌, ◌^◌, Bool,
 use Rattle.std.specs.List.{All}
 use Rattle.std.proofs.lemmas.Bool.{false≢true, and_parts, ltb-true}
 use Rattle.gb_core.specs.declared.value.Value.{Value}
-use Rattle.gb_coupling.specs.WeightedList.{WeightedList, total}
+use Rattle.gb_dist.specs.WeightedList.{WeightedList, total}
 use Rattle.gb_terms.specs.declared.term.Pair.{Pair}
 use Rattle.gb_dist.specs.Lists.{is_positive}
 use Rattle.gb_meaning.specs.Distributions.{stated}

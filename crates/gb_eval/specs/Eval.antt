@@ -18,7 +18,7 @@ use Rattle.gb_terms.specs.declared.term.Term.{Term, Term', Row_of-Term, end_of-T
 use Rattle.gb_terms.specs.declared.term.Head.{Head}
 use Rattle.gb_terms.specs.declared.term.Head.TheVariants as head
 use Rattle.gb_terms.specs.Equal.{read_eq}
-use Rattle.gb_coupling.specs.WeightedList.{WeightedList, total, scale}
+use Rattle.gb_dist.specs.WeightedList.{WeightedList, total, scale}
 use Rattle.gb_num.specs.Fractions.{Fraction, plus, reduced}
 use Rattle.gb_num.specs.Operations.{product_of, plus_steps}
 use Rattle.gb_dist.specs.Lists.{imaged, kept}
@@ -28,8 +28,8 @@ use Rattle.gb_dist.specs.Places.{outcomes}
 use Rattle.gb_dist.specs.Rows.{scaling_steps}
 use Rattle.gb_goal.specs.Scope.{Declarations}
 use Rattle.gb_walk.specs.Clash.{Exclusions}
-use Rattle.gb_reads.specs.Held as held
-use Rattle.gb_reads.specs.Reads.{Vars, are_free, reads_of}
+use Rattle.gb_labels.specs.Held as held
+use Rattle.gb_labels.specs.Reads.{Vars, are_free, reads_of}
 use Rattle.gb_labels.specs.Labelled.{labelled}
 use Rattle.gb_eval.specs.declared.env.Bound.{Bound}
 use Rattle.gb_eval.specs.declared.env.Bound.TheVariants as to

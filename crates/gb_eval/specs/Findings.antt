@@ -5,7 +5,7 @@ use Rattle.gb_core.specs.declared.refusal.Refused.TheVariants as refused
 use Rattle.gb_core.specs.declared.refusal.Why.TheVariants as why
 use Rattle.gb_core.specs.declared.value.Value.{Value}
 use Rattle.gb_core.specs.declared.value.Value.TheVariants.{Num, Many'}
-use Rattle.gb_coupling.specs.WeightedList.{WeightedList}
+use Rattle.gb_dist.specs.WeightedList.{WeightedList}
 use Rattle.gb_num.specs.declared.whole.Overflow.{Overflow}
 use Rattle.gb_num.specs.Fractions.{Fraction}
 use Rattle.gb_num.specs.Operations.{Operation, first_overflow}

@@ -8,7 +8,7 @@ use Rattle.gb_terms.specs.declared.op.Side.TheVariants as side
 use Rattle.gb_terms.specs.declared.term.Term.{Term, Term', Row_of-Term, end_of-Term, more_of-Term, end_of-Head, more_of-Head}
 use Rattle.gb_terms.specs.declared.term.Head.{Head}
 use Rattle.gb_terms.specs.declared.term.Head.TheVariants as head
-use Rattle.gb_coupling.specs.WeightedList.{WeightedList, mass}
+use Rattle.gb_dist.specs.WeightedList.{WeightedList, mass}
 use Rattle.gb_num.specs.Fractions.{Fraction, IsSame}
 use Rattle.gb_meaning.specs.Setting.{Meaning, Setting}
 use Rattle.gb_meaning.specs.Setting.Meaning.{finite, whole, fraction, weights}
@@ -20,7 +20,7 @@ use Rattle.gb_meaning.specs.State.Binding.{value, memory}
 use Rattle.gb_meaning.specs.Terms as mt
 use Rattle.gb_meaning.specs.Terms.{Speaks, denominator, quiet, read_at, val}
 use Rattle.gb_laws.specs.Plain.{IsPlain}
-use Rattle.gb_reads.specs.Memories.{IsHeldBy, IsReadable}
+use Rattle.gb_labels.specs.Memories.{IsHeldBy, IsReadable}
 use Rattle.gb_eval.specs.declared.env.ReadValue.{ReadValue}
 use Rattle.gb_meaning.specs.Names.{Name}
 use Rattle.gb_eval.specs.declared.env.Bound.{Bound}

@@ -12,13 +12,13 @@ use Rattle.gb_types.specs.Numbering.{parts_of}
 use Rattle.gb_types.specs.Types.{card_of, numbering, value_at}
 use Rattle.gb_terms.specs.declared.op.Op.{Op}
 use Rattle.gb_terms.specs.declared.op.Op.TheVariants as op
-use Rattle.gb_coupling.specs.WeightedList.{WeightedList, weight, unit}
+use Rattle.gb_dist.specs.WeightedList.{WeightedList, weight, unit}
 use Rattle.gb_num.specs.Fractions.{Fraction, plus, minus, times, over, absolute, of_whole, reduced}
 use Rattle.gb_num.specs.Fractions as fractions
 use Rattle.gb_num.specs.Operations.{is_small, product_of, sum_of, difference_of, crossings, plus_steps, minus_steps, times_steps, over_steps}
 use Rattle.gb_dist.specs.Lists.{coin, uniform, product}
 use Rattle.gb_dist.specs.Rows.{product_steps}
-use Rattle.gb_maps.specs.Keys.{are_keys, is_key}
+use Rattle.gb_labels.specs.Keys.{are_keys, is_key}
 use Rattle.gb_meaning.specs.Values.{value_eq}
 use Rattle.gb_meaning.specs.Operators.{outcome_type, key_type, entry_of, entry_set, is_none}
 use Rattle.gb_eval.specs.Findings.{Finding, Comes, ◌>>=◌, after, of_number, of_truth, number_in, truth_in, value_in, fraction_in, with_table}

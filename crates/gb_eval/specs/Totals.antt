@@ -12,7 +12,7 @@ use Rattle.gb_terms.specs.declared.term.Head.{Head}
 use Rattle.gb_terms.specs.declared.term.Head.TheVariants as head
 use Rattle.gb_num.specs.Operations.{product_of}
 use Rattle.gb_core.specs.declared.value.Value.{Value}
-use Rattle.gb_coupling.specs.WeightedList.{WeightedList, total}
+use Rattle.gb_dist.specs.WeightedList.{WeightedList, total}
 use Rattle.gb_dist.specs.Rows.{adding_steps}
 use Rattle.gb_meaning.specs.Distributions.{stated}
 use Rattle.gb_meaning.specs.Operators.{is_distribution, outcome_type}

@@ -11,7 +11,7 @@ ghost use Rattle.gb_eval.specs.declared.env.Bound.{Bound};
 ghost use Rattle.gb_eval.specs.Findings.Comes.{found};
 ghost use Rattle.gb_eval.specs.Eval.{Environment, eval, operators_at, truth_at};
 ghost use Rattle.gb_eval.specs.Meant.{Means, Binds, AreGiven, AreJudged, AreOperators, AreBodies};
-ghost use Rattle.gb_reads.specs.Memories.{AreKeptApart};
+ghost use Rattle.gb_labels.specs.Memories.{AreKeptApart};
 
 /// What is found of a term is what the term means, in each setting whose operators are those of the environment, and in each
 /// state in which the reads of the term mean what is given for them, where quantifiers over memories say what they say: a value the

@@ -6,8 +6,8 @@ ghost use Rattle.gb_eval.specs.Operators.{updated, with_entry};
 use crate::answer::{Answer, Stop, value_in};
 use gb_core::ty::Ty;
 use gb_core::value::Value;
-use gb_maps::entries::entry_set;
-use gb_maps::keys::{are_keys, is_key};
+use gb_labels::entries::entry_set;
+use gb_labels::keys::{are_keys, is_key};
 use gb_types::index::parts;
 use std::alloc::Global;
 

@@ -10,10 +10,10 @@ ghost use Rattle.gb_eval.specs.Findings.Finding.{fraction};
 ghost use Rattle.gb_eval.specs.Operators.{absolute_of, arithmetic, as_fraction, chance, fraction_at, is_divisor, modulo, number_at, opposite, order, real_in, same, whole_at, whole_fraction};
 
 use crate::answer::{Answer, Stop, fraction_in, number_in};
+use gb_closing::counted::difference as difference_modulo;
 use gb_core::same::same_value;
 use gb_core::ty::Ty;
 use gb_core::value::Value;
-use gb_members::counted::difference as difference_modulo;
 use gb_num::whole::{difference, product, sum};
 use gb_num::{Frac, Overflow, abs, add, cmp, div_lit, mul, sub};
 use gb_terms::op::Op;

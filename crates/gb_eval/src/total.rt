@@ -2,7 +2,7 @@
 
 ghost use Rattle.std.specs.Prelude.{◌≡◌, ◌<◌, ◌^◌, true, map, All, IfOk};
 ghost use Rattle.gb_types.specs.Types.{card_of};
-ghost use Rattle.gb_coupling.specs.WeightedList.{total as sum};
+ghost use Rattle.gb_dist.specs.WeightedList.{total as sum};
 ghost use Rattle.gb_dist.specs.Lists.{is_positive};
 ghost use Rattle.gb_dist.specs.Rows.{adding_steps};
 ghost use Rattle.gb_meaning.specs.Distributions.{stated};

@@ -1,3 +1,9 @@
+pub mod Between
+pub mod Decided
+pub mod Effects
+pub mod Ordered
+pub mod Turns
+pub mod Variants
 pub mod Arguments
 pub mod Branches
 pub mod Calls

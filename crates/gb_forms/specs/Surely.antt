@@ -8,7 +8,7 @@ use Rattle.gb_terms.specs.declared.term.Head.TheVariants.{Mu}
 use Rattle.gb_terms.specs.Make.{node, truth_literal}
 use Rattle.gb_typing.specs.Forms.{located}
 use Rattle.gb_typing.specs.Samplings.{Sampling}
-use Rattle.gb_parts.specs.Compared.{compared, one}
+use Rattle.gb_prog.specs.Compared.{compared, one}
 
 -- how likely any value is drawn at all: `mu d (fun v => true)`
 abbrev pub drawing : Side → Sampling → Term

@@ -7,8 +7,8 @@ ghost use Rattle.gb_forms.specs.Surely.{drawing, surely_drawn};
 
 use gb_core::Shared;
 use gb_core::ty::Ty;
-use gb_parts::compared::{compared, number};
-use gb_parts::forms::located;
+use gb_prog::compared::{compared, number};
+use gb_prog::forms::located;
 use gb_terms::make::{boolean, conjunction, term};
 use gb_terms::op::{Rel, Side};
 use gb_terms::term::{Form, Head, RealTerm};

@@ -4,7 +4,7 @@ use Rattle.std.proofs.lemmas.Bool.{false≢true}
 use Rattle.std.proofs.lemmas.Option.{same_Some}
 use Rattle.gb_core.specs.declared.value.Value.{Value}
 use Rattle.gb_core.specs.declared.var.Var.{Var}
-use Rattle.gb_coupling.specs.WeightedList.{total}
+use Rattle.gb_dist.specs.WeightedList.{total}
 use Rattle.gb_terms.specs.declared.decl.Proc.{Proc}
 use Rattle.gb_terms.specs.declared.decl.TypedName.{TypedName}
 use Rattle.gb_terms.specs.declared.module.ProcRef.{ProcRef}
@@ -36,8 +36,8 @@ use Rattle.gb_typing.proofs.Fitting.{fits_program}
 use Rattle.gb_typing.specs.Meaning.{run, denominator}
 use Rattle.gb_goal.specs.Scope.{Declarations, procedure_of}
 use Rattle.gb_goal.specs.declared.sequent.Sequent.{Sequent}
-use Rattle.gb_holds.specs.Declared.{declared}
-use Rattle.gb_holds.specs.Linking.{link_routine}
+use Rattle.gb_meaning.specs.Declared.{declared}
+use Rattle.gb_meaning.specs.Linking.{link_routine}
 use Rattle.gb_goal.specs.Goal.Code.{procedure}
 use Rattle.gb_mods.specs.Called.{all_reached, calls, same_procedure}
 use Rattle.gb_mods.specs.Meant.{meant_by}

@@ -5,7 +5,7 @@ use Rattle.std.proofs.lemmas.Option.{same_Some}
 use Rattle.std.proofs.lemmas.Slice.Eq.{bytes_eq-Decides}
 use Rattle.gb_core.specs.declared.ty.Ty.{Ty}
 use Rattle.gb_core.specs.declared.ty.Ty.TheVariants as ty
-use Rattle.gb_coupling.specs.WeightedList.{total, IsPositive}
+use Rattle.gb_dist.specs.WeightedList.{total, IsPositive}
 use Rattle.gb_terms.specs.declared.module.Bind.{Bind}
 use Rattle.gb_terms.specs.declared.term.Term.{Term, Term', Row_of-Term, end_of-Term, more_of-Term, end_of-Head, more_of-Head}
 use Rattle.gb_terms.specs.declared.term.Head.{Head}
@@ -22,9 +22,9 @@ use Rattle.gb_meaning.specs.Setting.{Meaning, Setting}
 use Rattle.gb_meaning.specs.Sound.{IsFull}
 use Rattle.gb_meaning.specs.Terms.{quiet, val, denominator}
 use Rattle.gb_meaning.specs.Written.{type_of}
-use Rattle.gb_holds.specs.Declared.{Declarations, Declaration, declaration_of, declared, operator, abstract_operator}
-use Rattle.gb_holds.specs.Settings.{Table, types_of, bare, at_arguments, with_declaration, with_operators as with_each_operator, setting}
-use Rattle.gb_holds.proofs.SettingTypes.{setting-types}
+use Rattle.gb_meaning.specs.Declared.{Declarations, Declaration, declaration_of, declared, operator, abstract_operator}
+use Rattle.gb_meaning.specs.Settings.{Table, types_of, bare, at_arguments, with_declaration, with_operators as with_each_operator, setting}
+use Rattle.gb_meaning.proofs.SettingTypes.{setting-types}
 use Rattle.gb_typing.specs.Agreement.{SameOperator}
 use Rattle.gb_laws.specs.Context.{IsUnrestrictedHead, IsUnrestricted, AreUnrestricted, IsFullOperator, IsFullHead, NamesFull, AllNameFull, AreOf, gives_distributions}
 use Rattle.gb_laws.specs.Context as of_setting

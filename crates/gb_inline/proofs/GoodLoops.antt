@@ -1,10 +1,10 @@
 -- A loop is good where one is that it matches.
 use Rattle.std.proofs.Common.{◌≡◌, ℕ, ◌-◌, ◌+◌, ◌*◌, ◌^◌, ◌<◌, ◌≤◌, Bool, false, [], ◌∷◌, refl, ap, sym, ◌∙◌, subst, arith}
 use Rattle.std.proofs.lemmas.Nat.{pow-add}
-use Rattle.gb_coupling.specs.WeightedList.{WeightedList, scale, unit, Every, SameDistribution}
-use Rattle.gb_coupling.proofs.Distributions.{same_scale, same_transitive}
-use Rattle.gb_coupling.proofs.Entries.{Every-weaken}
-use Rattle.gb_coupling.proofs.Monad.{bind-unit_right}
+use Rattle.gb_dist.specs.WeightedList.{WeightedList, scale, unit, Every, SameDistribution}
+use Rattle.gb_dist.proofs.Distributions.{same_scale, same_transitive}
+use Rattle.gb_dist.proofs.Entries.{Every-weaken}
+use Rattle.gb_dist.proofs.Monad.{bind-unit_right}
 use Rattle.gb_terms.specs.declared.term.Term.{Term}
 use Rattle.gb_meaning.specs.Loops.{GoodFrom, IsGood}
 use Rattle.gb_meaning.specs.Memory.{Memory}

@@ -3,7 +3,7 @@ use Rattle.std.proofs.Common.{◌≡◌, ℕ, ◌-◌, ◌*◌, ◌^◌, List, m
 use Rattle.gb_core.specs.declared.value.Value.{Value}
 use Rattle.gb_core.specs.declared.var.Var.{Var}
 use Rattle.gb_terms.specs.declared.term.Term.{Term}
-use Rattle.gb_coupling.specs.WeightedList.{dmap}
+use Rattle.gb_dist.specs.WeightedList.{dmap}
 use Rattle.gb_meaning.specs.Memory.{Memory, assigned, write}
 use Rattle.gb_meaning.specs.Program.{Program, Routine}
 use Rattle.gb_meaning.specs.Program.Program.{done, assign, sample, branch, loop, call}

@@ -10,8 +10,8 @@ use Rattle.gb_terms.specs.declared.decl.TypedName.{TypedName}
 use Rattle.gb_terms.specs.declared.term.Instr.{Instr, Row_of-Instr, end_of-Instr, more_of-Instr}
 use Rattle.gb_terms.specs.declared.term.Head.TheVariants.{Assign, Sample, Call', If', While, While'}
 use Rattle.gb_terms.specs.declared.term.Term.{Term, Row_of-Term}
-use Rattle.gb_holds.specs.Footprints.{touched_in, variables, variables_in}
-use Rattle.gb_holds.specs.Holds.{LoopsAreGood}
+use Rattle.gb_meaning.specs.Footprints.{touched_in, variables, variables_in}
+use Rattle.gb_meaning.specs.Holds.{LoopsAreGood}
 use Rattle.gb_meaning.proofs.Bodies.{statement_if, statement_while}
 use Rattle.gb_meaning.specs.Commands.{called, program_of, statement, statements, terms_in}
 use Rattle.gb_meaning.specs.Loops.{IsGood}

@@ -6,8 +6,8 @@ use Rattle.gb_core.specs.declared.ty.Ty.{Ty}
 use Rattle.gb_core.specs.declared.value.Value.{Value}
 use Rattle.gb_core.specs.declared.value.Value.TheVariants.{Many}
 use Rattle.gb_core.specs.declared.var.Var.{Var}
-use Rattle.gb_coupling.specs.WeightedList.{WeightedList, bind, dmap, unit}
-use Rattle.gb_coupling.proofs.Monad.{bind-unit, dmap-dmap, dmap_by_bind}
+use Rattle.gb_dist.specs.WeightedList.{WeightedList, bind, dmap, unit}
+use Rattle.gb_dist.proofs.Monad.{bind-unit, dmap-dmap, dmap_by_bind}
 use Rattle.gb_terms.specs.declared.decl.Proc.{Proc}
 use Rattle.gb_terms.specs.declared.decl.TypedName.{TypedName}
 use Rattle.gb_terms.specs.declared.term.Instr.{Instr}

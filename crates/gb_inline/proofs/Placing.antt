@@ -16,9 +16,9 @@ use Rattle.gb_ended.specs.Loops.{unproved_of}
 use Rattle.gb_goal.specs.Scope.{Declarations, procedure_of}
 use Rattle.gb_goal.specs.declared.scope.ProcName.{ProcName}
 use Rattle.gb_goal.specs.declared.sequent.Sequent.{Sequent}
-use Rattle.gb_holds.specs.Declared.{declared}
-use Rattle.gb_holds.specs.Footprints.{variables, variables_in}
-use Rattle.gb_holds.specs.Holds.{LoopsAreGood}
+use Rattle.gb_meaning.specs.Declared.{declared}
+use Rattle.gb_meaning.specs.Footprints.{variables, variables_in}
+use Rattle.gb_meaning.specs.Holds.{LoopsAreGood}
 use Rattle.gb_meaning.specs.Commands.{called, statements, terms_in}
 use Rattle.gb_meaning.specs.Memory.{Memory}
 use Rattle.gb_meaning.specs.Names.{Name}

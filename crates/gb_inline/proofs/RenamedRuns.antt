@@ -11,7 +11,7 @@ use Rattle.gb_terms.specs.declared.term.Head.TheVariants.{Assign, Sample, Call',
 use Rattle.gb_terms.specs.declared.term.Term.{Term}
 use Rattle.gb_types.specs.Numbering.{parts_of}
 use Rattle.gb_walk.specs.Change.{Changes, term_changed}
-use Rattle.gb_holds.specs.Holds.{LoopsAreGood}
+use Rattle.gb_meaning.specs.Holds.{LoopsAreGood}
 use Rattle.gb_meaning.proofs.Bodies.{statement_call, statement_if, statement_while}
 use Rattle.gb_meaning.proofs.Maps.{get-set_other, get-set_same}
 use Rattle.gb_meaning.proofs.Memories.{read-write_other_local}

@@ -6,7 +6,7 @@ use Rattle.gb_goal.specs.Goal.Goal.{ambient}
 use Rattle.gb_goal.specs.Rows.{refusing}
 use Rattle.gb_goal.specs.Scope.{Declarations}
 use Rattle.gb_goal.specs.declared.sequent.Sequent.{Sequent}
-use Rattle.gb_holds.specs.Declared.{declared}
+use Rattle.gb_meaning.specs.Declared.{declared}
 use Rattle.gb_steps.specs.declared.step.Acts.{Acts}
 use Rattle.gb_steps.specs.declared.step.Acts.TheVariants as on
 use Rattle.gb_steps.specs.declared.step.Rule.{Rule}
@@ -19,7 +19,7 @@ use Rattle.gb_typing.specs.Scopes.{context_of, IsTypedScope}
 use Rattle.gb_typing.specs.Sequents.{of_sequent, IsTypedSequent}
 use Rattle.gb_typing.proofs.Given.{refused_given}
 use Rattle.gb_prog.specs.Ends.{IsSoundOnLoops}
-use Rattle.gb_kill.proofs.RulesAreSound as others
+use Rattle.gb_trans.proofs.KillRowsAreSound as others
 use Rattle.gb_inline.specs.Proved.{IsSoundOnProved, IsSoundProvedRule}
 use Rattle.gb_inline.specs.Rows.{rule_row, transform_row}
 use Rattle.gb_inline.proofs.InlineIsSound.{sound}

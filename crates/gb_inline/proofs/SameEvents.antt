@@ -5,7 +5,7 @@ use Rattle.std.specs.List.{AllByRecursion}
 use Rattle.std.specs.Option.{option_map}
 use Rattle.gb_core.specs.declared.var.Var.{Var}
 use Rattle.gb_core.specs.declared.var.Var.TheVariants as var
-use Rattle.gb_coupling.specs.WeightedList.{weight}
+use Rattle.gb_dist.specs.WeightedList.{weight}
 use Rattle.gb_terms.specs.declared.decl.TypedName.{TypedName}
 use Rattle.gb_terms.specs.declared.module.Mexp.TheVariants.{Name as named}
 use Rattle.gb_terms.specs.declared.op.Side.{Side}
@@ -14,7 +14,7 @@ use Rattle.gb_terms.specs.declared.term.Term.{Term}
 use Rattle.gb_walk.specs.Clash.{variables_read}
 use Rattle.gb_goal.specs.Scope.{Declarations}
 use Rattle.gb_goal.specs.declared.sequent.Sequent.{Sequent}
-use Rattle.gb_holds.specs.Declared.{declared}
+use Rattle.gb_meaning.specs.Declared.{declared}
 use Rattle.gb_laws.proofs.Zips.{zip_weight}
 use Rattle.gb_laws.specs.Cells.{get_at}
 use Rattle.gb_laws.specs.Writes.{key_of_global, keys_of}
@@ -30,7 +30,7 @@ use Rattle.gb_typing.specs.Programs.{IsBody}
 use Rattle.gb_typing.specs.Rules.{IsSettingOver}
 use Rattle.gb_typing.specs.Scopes.{context_of, IsTypedScope}
 use Rattle.gb_typing.specs.Sequents.{of_sequent, IsTypedSequent}
-use Rattle.gb_kill.specs.Events.{HoldTheSame, ReadsAlone}
+use Rattle.gb_trans.specs.Events.{HoldTheSame, ReadsAlone}
 use Rattle.gb_inline.specs.Fresh.{is_taken}
 use Rattle.gb_inline.specs.Inlined.{going_on, inlined, once, repeated, used, without_calls}
 use Rattle.gb_inline.proofs.InlineIsSound as sound

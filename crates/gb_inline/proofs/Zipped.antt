@@ -1,7 +1,7 @@
 -- Weighted lists that agree entry by entry are coupled.
 use Rattle.std.proofs.Common.{◌≡◌, ℕ, ◌+◌, ◌*◌, ◌<◌, [], ◌∷◌, refl, ap}
-use Rattle.gb_coupling.specs.WeightedList.{WeightedList, mass, On, IsPositive}
-use Rattle.gb_coupling.specs.Coupling.{Coupling}
+use Rattle.gb_dist.specs.WeightedList.{WeightedList, mass, On, IsPositive}
+use Rattle.gb_dist.specs.Coupling.{Coupling}
 use Rattle.gb_laws.proofs.Zips.{Zip}
 
 module _ {A B : Type 0} (R : A → B → Type 0) where

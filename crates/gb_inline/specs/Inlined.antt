@@ -28,7 +28,7 @@ use Rattle.gb_steps.specs.declared.step.Acts.{Acts}
 use Rattle.gb_steps.specs.declared.step.Acts.TheVariants as on
 use Rattle.gb_steps.specs.declared.step.Calls.{Calls}
 use Rattle.gb_steps.specs.declared.step.Calls.TheVariants.{Of, All}
-use Rattle.gb_parts.specs.OneBody.{on_one, one_body}
+use Rattle.gb_prog.specs.OneBody.{on_one, one_body}
 use Rattle.gb_trans.specs.Transformed.{with_body}
 use Rattle.gb_inline.specs.Expanded.{expanded}
 

@@ -9,8 +9,8 @@ use Rattle.gb_goal.specs.Answers.Answer.{given}
 use Rattle.gb_goal.specs.Goal.{Goal}
 use Rattle.gb_goal.specs.Rows.{Row}
 use Rattle.gb_goal.specs.Scope.{Declarations, procedure_of}
-use Rattle.gb_holds.specs.Declared.{declared}
-use Rattle.gb_holds.specs.Holds.{LoopsAreGood}
+use Rattle.gb_meaning.specs.Declared.{declared}
+use Rattle.gb_meaning.specs.Holds.{LoopsAreGood}
 use Rattle.gb_meaning.specs.Commands.{statements}
 use Rattle.gb_meaning.specs.Setting.{Setting}
 use Rattle.gb_typing.specs.Context.{Context}

@@ -7,7 +7,7 @@ use Rattle.gb_steps.specs.declared.step.Rule.{Rule}
 use Rattle.gb_steps.specs.declared.step.Rule.TheVariants.{Transform}
 use Rattle.gb_steps.specs.declared.step.Transformation.{Transformation}
 use Rattle.gb_steps.specs.declared.step.Transformation.TheVariants.{Inline}
-use Rattle.gb_kill.specs.Rows.{killing_row}
+use Rattle.gb_trans.specs.KillRows.{killing_row}
 use Rattle.gb_inline.specs.Inlined.{inline_row}
 
 -- what these rules make of goals, on the programs on which they act

@@ -8,9 +8,9 @@ use crate::inline::inline;
 use gb_core::refusal::Refused;
 use gb_goal::scope::Scope;
 use gb_goal::sequent::{Sequent, Sequents};
-use gb_kill::apply::killing;
-use gb_parts::subgoals::{no_shape, placed};
+use gb_prog::subgoals::{no_shape, placed};
 use gb_steps::step::{Rule, Step, Transformation};
+use gb_trans::apply_kill::killing;
 use std::alloc::Global;
 
 /// The subgoals of a rule. Refused with `Shape` at a rule of another family.

@@ -2,12 +2,12 @@
 
 ghost use Rattle.std.specs.Prelude.{◌≡◌, ◌*◌, Bool, List, Some};
 ghost use Rattle.gb_core.specs.declared.refusal.Why.TheVariants.{Shape};
-ghost use Rattle.gb_coupling.specs.WeightedList.{weight};
+ghost use Rattle.gb_dist.specs.WeightedList.{weight};
 ghost use Rattle.gb_goal.specs.Goal.Goal.{ambient};
 ghost use Rattle.gb_goal.specs.Rows.{refusing};
 ghost use Rattle.gb_goal.specs.Scope.{Declarations};
 ghost use Rattle.gb_goal.specs.declared.sequent.Sequent.{Sequent};
-ghost use Rattle.gb_holds.specs.Declared.{declared};
+ghost use Rattle.gb_meaning.specs.Declared.{declared};
 ghost use Rattle.gb_steps.specs.declared.step.Rule.{Rule};
 ghost use Rattle.gb_steps.specs.declared.step.Calls.{Calls};
 ghost use Rattle.gb_terms.specs.declared.decl.TypedName.{TypedName};
@@ -21,7 +21,7 @@ ghost use Rattle.gb_meaning.specs.State.{State};
 ghost use Rattle.gb_typing.specs.Meaning.{denominator, run};
 ghost use Rattle.gb_typing.specs.Programs.{IsBody};
 ghost use Rattle.gb_typing.specs.Rules.{IsSettingOver};
-ghost use Rattle.gb_kill.specs.Events.{ReadsAlone};
+ghost use Rattle.gb_trans.specs.Events.{ReadsAlone};
 ghost use Rattle.gb_inline.specs.Inlined.{inlined};
 ghost use Rattle.gb_typing.specs.Scopes.{context_of, IsTypedScope};
 ghost use Rattle.gb_typing.specs.Sequents.{of_sequent, IsTypedSequent};

@@ -10,7 +10,7 @@ use Rattle.gb_terms.specs.Make.{node}
 use Rattle.gb_meaning.specs.Written.{type_of}
 use Rattle.gb_laws.specs.Typing.{types_of}
 use Rattle.gb_walk.specs.Clash.{Exclusions}
-use Rattle.gb_reads.specs.Reads.{Vars, are_free, reads_of}
+use Rattle.gb_labels.specs.Reads.{Vars, are_free, reads_of}
 use Rattle.gb_labels.specs.Labels.{Labels, labelled_ty}
 use Rattle.gb_labels.specs.Things.{all_read_freely, all_things_at, bound_by, of_types, reads_freely, reads_inside, reads_under, thing_of, things_at}
 use Rattle.gb_labels.specs.Labelled.{labelled_head, labelled, all_labelled}

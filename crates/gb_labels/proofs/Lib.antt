@@ -1,3 +1,7 @@
+pub mod Places
+pub mod NotedReads
+pub mod Globals
+pub mod Memories
 pub mod Parts
 pub mod Layers
 pub mod Same

@@ -14,8 +14,8 @@ use Rattle.gb_laws.proofs.Constructors.{distribution_is}
 use Rattle.gb_terms.specs.declared.op.Op.TheVariants as op
 use Rattle.gb_terms.specs.declared.term.Head.{Head}
 use Rattle.gb_terms.specs.declared.term.Head.TheVariants as head
-use Rattle.gb_reads.specs.declared.reads.TypedVar.{TypedVar}
-use Rattle.gb_reads.specs.Reads.{Vars}
+use Rattle.gb_labels.specs.declared.reads.TypedVar.{TypedVar}
+use Rattle.gb_labels.specs.Reads.{Vars}
 use Rattle.gb_labels.specs.declared.things.Source.TheVariants.{Variable, Opened, Place}
 use Rattle.gb_labels.specs.declared.things.Thing.{Thing}
 use Rattle.gb_labels.specs.Things.{bound_by, holds_glob, holds_layer, is_noted, is_of_bound_memory, noted, of_outcomes, of_types, reads_under, thing_of, things_at, with_new}

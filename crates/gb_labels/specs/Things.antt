@@ -18,7 +18,7 @@ use Rattle.gb_meaning.specs.Operators.{outcome_type}
 use Rattle.gb_laws.specs.Typing.{types_of}
 use Rattle.gb_meaning.proofs.SameTerms.{same_terms}
 use Rattle.gb_walk.specs.Clash.{Exclusions}
-use Rattle.gb_reads.specs.Reads.{Vars, are_free, reads_of}
+use Rattle.gb_labels.specs.Reads.{Vars, are_free, reads_of}
 use Rattle.gb_labels.specs.declared.things.Source.{Source}
 use Rattle.gb_labels.specs.declared.things.Source.TheVariants.{Variable, Opened, Place}
 use Rattle.gb_labels.specs.declared.things.Thing.{Thing}

@@ -8,10 +8,10 @@ ghost use Rattle.gb_meaning.specs.Written.{type_of};
 ghost use Rattle.gb_labels.specs.Things.{all_names, bound_by, counted, holds_glob, is_noted, is_of_bound_memory, is_once, module_of, module_or, modules_in, modules_of, most_labels, noted, of_outcomes, of_types, reads_freely, reads_under, thing_of, things_at, things_in, with_new};
 
 use crate::labels::{Labels, with_one};
+use crate::reads::{TypedVar, TypedVars, are_free, reads};
 use crate::types::{holds_glob, module_of};
 use gb_core::Shared;
 use gb_core::ty::Ty;
-use gb_reads::reads::{TypedVar, TypedVars, are_free, reads};
 use gb_terms::op::{Op, Read, Side};
 use gb_terms::same::{same, same_read};
 use gb_terms::share::copy_read;

@@ -4,14 +4,14 @@ use Rattle.std.proofs.Common.{refl}
 use Rattle.gb_language.specs.declared.rows.TheConstants.{ROWS, PLACES}
 use Rattle.gb_language.specs.declared.bodies.TheConstants.{SYMBOLS}
 use Rattle.gb_language.specs.Claims.{claims}
-use Rattle.gb_grammar.specs.Grammar.{grammar_of}
+use Rattle.gb_script.specs.Grammar.{grammar_of}
 use Rattle.gb_language.specs.Sorts.{part_sorts, signatures}
 use Rattle.gb_language.specs.Spelling.{spelling}
 use Rattle.gb_language.specs.Language.{still_kinds}
 use Rattle.gb_script.specs.Acts.{sorts_ok}
 use Rattle.gb_script.specs.Spelled.{spellings_ok, still_ok}
-use Rattle.gb_grammar.specs.Check.{productions_ok, places_ok, grammar_ok}
-use Rattle.gb_grammar.proofs.Bodies.{bodies, in_order, grammar_with, grammar_passes}
+use Rattle.gb_script.specs.Check.{productions_ok, places_ok, grammar_ok}
+use Rattle.gb_script.proofs.Bodies.{bodies, in_order, grammar_with, grammar_passes}
 
 ordered : in_order 0 ROWS (bodies SYMBOLS) ≡ true
 ordered = refl

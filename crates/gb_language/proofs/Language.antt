@@ -2,15 +2,15 @@
 use Rattle.std.specs.Prelude.{◌≡◌, ℕ, List, [], ◌∷◌, true}
 use Rattle.std.specs.List.{All}
 use Rattle.std.proofs.Common.{refl, ap, sym, subst, inl, inr, ◌∙◌}
-use Rattle.gb_grammar.specs.declared.table.Row.{Row}
-use Rattle.gb_grammar.specs.declared.table.Step.{Step}
-use Rattle.gb_grammar.specs.declared.table.Symbol.{Symbol}
-use Rattle.gb_grammar.specs.Check.{grammar_ok, is_start}
-use Rattle.gb_grammar.specs.Grammar.{grammar_of}
-use Rattle.gb_grammar.specs.Reading.{IsKind, Spells, IsTextOrFault}
-use Rattle.gb_grammar.proofs.Rows.{sound_table}
-use Rattle.gb_grammar.proofs.Outcomes.{outcome}
-use Rattle.gb_grammar.proofs.Unique.{unique}
+use Rattle.gb_script.specs.declared.table.Row.{Row}
+use Rattle.gb_script.specs.declared.table.Step.{Step}
+use Rattle.gb_script.specs.declared.table.Symbol.{Symbol}
+use Rattle.gb_script.specs.Check.{grammar_ok, is_start}
+use Rattle.gb_script.specs.Grammar.{grammar_of}
+use Rattle.gb_script.specs.Parsing.{IsKind, Spells, IsTextOrFault}
+use Rattle.gb_script.proofs.Rows.{sound_table}
+use Rattle.gb_script.proofs.Outcomes.{outcome}
+use Rattle.gb_script.proofs.Unique.{unique}
 use Rattle.gb_language.specs.declared.rows.TheConstants.{SCRIPTS, GOALS, COMMAND, FORM, ENTRY, HYPOTHESIS}
 use Rattle.gb_script.specs.declared.action.Rule.{Rule}
 use Rattle.gb_language.specs.Language.{all_rows, all_symbols, all_places, claimed, language, goal_language, IsPart, IsLine, IsTextTree, IsLineTree, tree_sort, node_signatures, node_spelling, still_kinds, value_sorts, IsSorted, IsTreeSpelled}

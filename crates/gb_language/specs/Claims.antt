@@ -1,6 +1,6 @@
 -- Written by tools/actions.py from script.txt: what is claimed of each part.
 use Rattle.std.specs.Prelude.{ℕ, Bool, [], ◌∷◌, true, false, nat_lt, slice_index_or, if◌then◌else◌}
-use Rattle.gb_grammar.specs.Check.{Claim, Claims}
+use Rattle.gb_script.specs.Check.{Claim, Claims}
 
 abbrev claim : Bool → ℕ → ℕ → ℕ → ℕ → Claim
 claim n a b w h = record { nullable = n; first = a; follow = b; weight = w; height = h }

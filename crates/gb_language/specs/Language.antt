@@ -1,9 +1,9 @@
 -- The languages that are read.
 use Rattle.std.specs.Prelude.{◌≡◌, ℕ, List, [], ◌∷◌, ◌⊎◌, nat_eq, if◌then◌else◌}
-use Rattle.gb_grammar.specs.declared.table.Row.{Row}
-use Rattle.gb_grammar.specs.declared.table.Symbol.{Symbol}
-use Rattle.gb_grammar.specs.Check.{Claims}
-use Rattle.gb_grammar.specs.Grammar.{Grammar, grammar_of}
+use Rattle.gb_script.specs.declared.table.Row.{Row}
+use Rattle.gb_script.specs.declared.table.Symbol.{Symbol}
+use Rattle.gb_script.specs.Check.{Claims}
+use Rattle.gb_script.specs.Grammar.{Grammar, grammar_of}
 use Rattle.gb_language.specs.declared.bodies.TheConstants.{SYMBOLS}
 use Rattle.gb_language.specs.declared.rows.TheConstants.{SCRIPTS, GOALS, ROWS, PLACES, COMMAND, FORM, ENTRY, HYPOTHESIS}
 use Rattle.gb_script.specs.declared.action.Rule.{Rule}

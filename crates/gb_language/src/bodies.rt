@@ -1,7 +1,7 @@
 // Written by tools/actions.py from script.txt.
 
-use gb_grammar::table::Symbol;
-use gb_grammar::table::Symbol::{Part, Token};
+use gb_script::table::Symbol;
+use gb_script::table::Symbol::{Part, Token};
 
 // Tokens by their numbers, and parts by theirs in brackets; a semicolon ends a body.
 macro_rules! bodies {

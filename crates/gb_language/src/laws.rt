@@ -2,9 +2,9 @@
 
 ghost use Rattle.std.specs.Prelude.{◌≡◌, ℕ, List, true};
 ghost use Rattle.std.specs.List.{All};
-ghost use Rattle.gb_grammar.specs.declared.table.Step.{Step};
-ghost use Rattle.gb_grammar.specs.Check.{grammar_ok};
-ghost use Rattle.gb_grammar.specs.Reading.{IsKind, Spells, IsTextOrFault};
+ghost use Rattle.gb_script.specs.declared.table.Step.{Step};
+ghost use Rattle.gb_script.specs.Check.{grammar_ok};
+ghost use Rattle.gb_script.specs.Parsing.{IsKind, Spells, IsTextOrFault};
 ghost use Rattle.gb_script.specs.declared.action.Rule.{Rule};
 ghost use Rattle.gb_language.specs.Claims.{claims};
 ghost use Rattle.gb_language.specs.Language.{language, goal_language, IsPart, IsLine, IsTextTree, IsLineTree, IsSorted, IsTreeSpelled};

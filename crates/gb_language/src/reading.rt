@@ -2,20 +2,20 @@
 
 ghost use Rattle.std.specs.Prelude.{◌≡◌, List, true, IfOk, IfErr, MatchResult};
 ghost use Rattle.std.specs.List.{All};
-ghost use Rattle.gb_grammar.specs.declared.table.Step.{Step};
-ghost use Rattle.gb_grammar.specs.Check.{grammar_ok, is_start};
-ghost use Rattle.gb_grammar.specs.Grammar.{grammar_of};
-ghost use Rattle.gb_grammar.specs.Reading.{Spells, IsKind, IsFault};
+ghost use Rattle.gb_script.specs.declared.table.Step.{Step};
+ghost use Rattle.gb_script.specs.Check.{grammar_ok, is_start};
+ghost use Rattle.gb_script.specs.Grammar.{grammar_of};
+ghost use Rattle.gb_script.specs.Parsing.{Spells, IsKind, IsFault};
 ghost use Rattle.gb_script.specs.declared.action.Rule.{Rule};
 ghost use Rattle.gb_language.specs.Language.{all_rows, all_symbols, all_places, claimed, language, goal_language, IsPart, IsLine, IsTextTree, IsLineTree, IsSorted, Of};
 
 use crate::bodies::SYMBOLS;
 use crate::rows::{GOALS, PLACES, ROWS, SCRIPTS};
-use gb_grammar::error::ReadError;
-use gb_grammar::reading::read;
-use gb_grammar::table::{Row, Step, Symbol};
 use gb_script::action::Rule;
+use gb_script::error::ReadError;
+use gb_script::parsing::read;
 use gb_script::reading::tree_of;
+use gb_script::table::{Row, Step, Symbol};
 use gb_script::text::Text;
 use gb_script::tree::Node;
 use std::alloc::{AllocError, Global};

@@ -1,8 +1,8 @@
 // Written by tools/actions.py from script.txt.
 
-use gb_grammar::table::Row;
 use gb_script::action::{Action, Mark, Rule};
 use gb_script::head::Head;
+use gb_script::table::Row;
 
 /// The part `command`.
 pub const COMMAND: u8 = 0;

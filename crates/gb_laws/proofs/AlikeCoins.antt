@@ -5,11 +5,11 @@ use Rattle.gb_core.specs.declared.ty.Ty.TheVariants.{Bool as truths}
 use Rattle.gb_core.specs.declared.value.Value.{Value, out-Value}
 use Rattle.gb_core.specs.declared.value.Value.TheVariants.{Num, Many}
 use Rattle.gb_terms.specs.declared.term.Head.TheVariants.{Body}
-use Rattle.gb_coupling.specs.WeightedList.{mass, weight, bit, indicator, On}
-use Rattle.gb_coupling.specs.Coupling.{Coupling}
-use Rattle.gb_coupling.proofs.Entries.{On-weaken}
-use Rattle.gb_coupling.proofs.Gluing.{factor_pos}
-use Rattle.gb_coupling.proofs.Indicators.{On-key, support_in}
+use Rattle.gb_dist.specs.WeightedList.{mass, weight, bit, indicator, On}
+use Rattle.gb_dist.specs.Coupling.{Coupling}
+use Rattle.gb_dist.proofs.Entries.{On-weaken}
+use Rattle.gb_dist.proofs.Gluing.{factor_pos}
+use Rattle.gb_dist.proofs.Indicators.{On-key, support_in}
 use Rattle.gb_meaning.specs.Values.{value_eq}
 use Rattle.gb_meaning.specs.Memory.{Memory, value_or}
 use Rattle.gb_meaning.specs.Setting.{Setting}

@@ -9,7 +9,7 @@ use Rattle.gb_terms.specs.declared.term.Head.{Head}
 use Rattle.gb_terms.specs.declared.term.Head.TheVariants as head
 use Rattle.gb_terms.specs.declared.term.Head.TheVariants.{Assign, Sample, Call', If', While'}
 use Rattle.gb_terms.specs.Make.{node}
-use Rattle.gb_coupling.specs.WeightedList.{scale, bind, dmap, total, IsPositive}
+use Rattle.gb_dist.specs.WeightedList.{scale, bind, dmap, total, IsPositive}
 use Rattle.gb_walk.specs.Change.{Changes, is_own, without, put_or, read_changed, term_of, term_changed}
 use Rattle.gb_meaning.specs.Memory.{Memory, write, assigned}
 use Rattle.gb_meaning.specs.Program.{Program as Statements, Routine}

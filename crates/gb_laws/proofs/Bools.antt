@@ -1,7 +1,7 @@
 -- Tests of each entry of a list.
 use Rattle.std.proofs.Common.{◌≡◌, Bool, true, false, ◌&&◌, [], ◌∷◌, refl}
 use Rattle.std.proofs.lemmas.Bool.{and_parts, and_from}
-use Rattle.gb_coupling.specs.WeightedList.{WeightedList, Every}
+use Rattle.gb_dist.specs.WeightedList.{WeightedList, Every}
 use Rattle.gb_laws.proofs.Zips.{Zip}
 
 abbrev pub implied : Bool → Bool → Bool

@@ -4,8 +4,8 @@ use Rattle.gb_core.specs.declared.ty.Ty.TheVariants.{Bool as truths}
 use Rattle.gb_core.specs.declared.value.Value.{Value, out-Value}
 use Rattle.gb_core.specs.declared.value.Value.TheVariants.{Num}
 use Rattle.gb_terms.specs.declared.term.Head.TheVariants.{Body}
-use Rattle.gb_coupling.specs.WeightedList.{WeightedList, bit}
-use Rattle.gb_coupling.specs.Coupling.{Coupling}
+use Rattle.gb_dist.specs.WeightedList.{WeightedList, bit}
+use Rattle.gb_dist.specs.Coupling.{Coupling}
 use Rattle.gb_meaning.specs.Values.{Types, has}
 use Rattle.gb_meaning.specs.Memory.{Memory, read_local, write_local}
 use Rattle.gb_meaning.specs.Setting.{Setting}

@@ -7,8 +7,8 @@ use Rattle.gb_core.specs.declared.value.Value.{Value}
 use Rattle.gb_types.specs.Numbering.{parts_of}
 use Rattle.gb_terms.specs.declared.module.Mexp.TheVariants.{Name as named}
 use Rattle.gb_terms.specs.declared.term.Term.{Term}
-use Rattle.gb_coupling.specs.WeightedList.{WeightedList, scale, bind, dmap}
-use Rattle.gb_coupling.proofs.Monad.{bind-dmap, dmap-bind, dmap-dmap, dmap-scale}
+use Rattle.gb_dist.specs.WeightedList.{WeightedList, scale, bind, dmap}
+use Rattle.gb_dist.proofs.Monad.{bind-dmap, dmap-bind, dmap-dmap, dmap-scale}
 use Rattle.gb_meaning.specs.Names.{Path, Map, set}
 use Rattle.gb_meaning.specs.Values.{Global, Types, fit}
 use Rattle.gb_meaning.specs.Memory.{Memory, write, write_globals, write_each, assigned, outcome, result_in}

@@ -8,7 +8,7 @@ use Rattle.gb_terms.specs.declared.term.Head.{Head}
 use Rattle.gb_terms.specs.declared.term.Head.TheVariants as head
 use Rattle.gb_terms.specs.declared.term.Head.TheVariants.{Proc, Body'}
 use Rattle.gb_terms.specs.declared.term.Subject.{Subject}
-use Rattle.gb_coupling.proofs.Existence.{has_coupling-true, has_coupling_of_coupling}
+use Rattle.gb_dist.proofs.Existence.{has_coupling-true, has_coupling_of_coupling}
 use Rattle.gb_meaning.specs.Names.{Map}
 use Rattle.gb_meaning.specs.Memory.{Memory}
 use Rattle.gb_meaning.specs.Program.{Routine}

@@ -8,7 +8,7 @@ use Rattle.gb_terms.specs.declared.term.Term.{Term}
 use Rattle.gb_terms.specs.declared.term.Head.{Head}
 use Rattle.gb_terms.specs.declared.term.Subject.{Subject}
 use Rattle.gb_terms.specs.declared.term.Head.TheVariants as head
-use Rattle.gb_coupling.specs.WeightedList.{weight, dmap}
+use Rattle.gb_dist.specs.WeightedList.{weight, dmap}
 use Rattle.gb_meaning.specs.Values.{values}
 use Rattle.gb_meaning.specs.Memory.{Memory}
 use Rattle.gb_meaning.specs.Setting.{Meaning, Setting}

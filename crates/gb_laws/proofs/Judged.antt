@@ -8,10 +8,10 @@ use Rattle.gb_terms.specs.declared.term.Subject.{Subject}
 use Rattle.gb_terms.specs.declared.term.Head.{Head}
 use Rattle.gb_terms.specs.declared.term.Head.TheVariants as head
 use Rattle.gb_terms.specs.Make.{node}
-use Rattle.gb_coupling.specs.WeightedList.{WeightedList, Every}
-use Rattle.gb_coupling.specs.Coupling.{Coupling}
-use Rattle.gb_coupling.proofs.Entries.{Every-weaken}
-use Rattle.gb_coupling.proofs.Basic.{coupling_weakening}
+use Rattle.gb_dist.specs.WeightedList.{WeightedList, Every}
+use Rattle.gb_dist.specs.Coupling.{Coupling}
+use Rattle.gb_dist.proofs.Entries.{Every-weaken}
+use Rattle.gb_dist.proofs.Basic.{coupling_weakening}
 use Rattle.gb_meaning.specs.Memory.{Memory}
 use Rattle.gb_meaning.specs.Setting.{Setting}
 use Rattle.gb_meaning.specs.Meanings.{truth, fraction_in}

@@ -2,7 +2,7 @@
 use Rattle.std.proofs.Common.{◌≡◌, List, inl, inr, refl, ap, sym, ◌∙◌, subst}
 use Rattle.gb_core.specs.declared.var.Var.{Var}
 use Rattle.gb_core.specs.declared.value.Value.{Value}
-use Rattle.gb_coupling.specs.WeightedList.{WeightedList, bind}
+use Rattle.gb_dist.specs.WeightedList.{WeightedList, bind}
 use Rattle.gb_meaning.specs.Values.{Types, fit}
 use Rattle.gb_meaning.specs.Memory.{Memory, write, assigned, result_in}
 use Rattle.gb_meaning.specs.Setting.{Setting}

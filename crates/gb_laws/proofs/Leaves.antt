@@ -5,8 +5,8 @@ use Rattle.gb_core.specs.declared.var.Var.TheVariants as var
 use Rattle.gb_core.specs.declared.value.Value.{Value}
 use Rattle.gb_types.specs.Numbering.{parts_of}
 use Rattle.gb_terms.specs.declared.module.Mexp.TheVariants.{Name as named}
-use Rattle.gb_coupling.specs.WeightedList.{WeightedList, Every, bind}
-use Rattle.gb_coupling.proofs.Entries.{Every-bind, Every-dmap, Every-scale, Every-weaken}
+use Rattle.gb_dist.specs.WeightedList.{WeightedList, Every, bind}
+use Rattle.gb_dist.proofs.Entries.{Every-bind, Every-dmap, Every-scale, Every-weaken}
 use Rattle.gb_meaning.specs.Names.{Path, Map, get}
 use Rattle.gb_meaning.specs.Values.{Global, Types}
 use Rattle.gb_meaning.specs.Memory.{Memory, write, write_globals, write_each, assigned, result_in}

@@ -9,8 +9,8 @@ use Rattle.gb_core.specs.declared.value.Value.{Value}
 use Rattle.gb_core.specs.declared.value.Value.TheVariants.{Num, Many}
 use Rattle.gb_types.specs.Numbering.{numbers, is_many_in, parts_in, parts_of, is_many}
 use Rattle.gb_types.proofs.Lawful.{Lawful-numbers, out-Many}
-use Rattle.gb_coupling.specs.WeightedList.{Every, bit}
-use Rattle.gb_coupling.proofs.Entries.{Every-scale}
+use Rattle.gb_dist.specs.WeightedList.{Every, bit}
+use Rattle.gb_dist.proofs.Entries.{Every-scale}
 use Rattle.gb_meaning.specs.Fractions.{Fraction, quotient}
 use Rattle.gb_meaning.specs.Values.{Types, has}
 use Rattle.gb_meaning.specs.Setting.{Meaning}

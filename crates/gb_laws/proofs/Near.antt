@@ -7,7 +7,7 @@ use Rattle.gb_terms.specs.declared.op.Read.TheVariants.{Logical, Program}
 use Rattle.gb_terms.specs.declared.term.Term.{Term, Term', Row_of-Term, end_of-Term, more_of-Term, end_of-Head, more_of-Head}
 use Rattle.gb_terms.specs.declared.term.Head.{Head}
 use Rattle.gb_terms.specs.declared.term.Head.TheVariants as head
-use Rattle.gb_coupling.specs.WeightedList.{weight, dmap}
+use Rattle.gb_dist.specs.WeightedList.{weight, dmap}
 use Rattle.gb_meaning.specs.Values.{values}
 use Rattle.gb_meaning.specs.Memory.{Memory}
 use Rattle.gb_meaning.specs.Setting.{Meaning, Setting}

@@ -6,8 +6,8 @@ use Rattle.gb_core.specs.declared.ty.Ty.TheVariants as ty
 use Rattle.gb_core.specs.declared.value.Value.{Value}
 use Rattle.gb_core.specs.declared.value.Value.TheVariants.{Num, Many}
 use Rattle.gb_types.specs.Numbering.{Numbering, parts_of, numbers, is_tuple, is_option, first_or, are_entries}
-use Rattle.gb_coupling.specs.WeightedList.{WeightedList, Every, unit}
-use Rattle.gb_coupling.proofs.Entries.{Every-append, Every-bind, Every-dmap}
+use Rattle.gb_dist.specs.WeightedList.{WeightedList, Every, unit}
+use Rattle.gb_dist.proofs.Entries.{Every-append, Every-bind, Every-dmap}
 use Rattle.gb_terms.specs.declared.op.Op.{Op}
 use Rattle.gb_terms.specs.declared.op.Op.TheVariants as op
 use Rattle.gb_terms.specs.declared.module.Mexp.TheVariants.{Name as named}

@@ -3,7 +3,7 @@ use Rattle.std.proofs.Common.{◌≡◌, Bool, map, Option, Some, None, pos, ap,
 use Rattle.gb_terms.specs.declared.op.Rel.{Rel}
 use Rattle.gb_terms.specs.declared.term.Head.TheVariants.{Proc, Body'}
 use Rattle.gb_terms.specs.declared.term.Subject.{Subject}
-use Rattle.gb_coupling.specs.Existence.{has_coupling}
+use Rattle.gb_dist.specs.Existence.{has_coupling}
 use Rattle.gb_meaning.specs.Memory.{Memory}
 use Rattle.gb_meaning.specs.Program.{Routine}
 use Rattle.gb_meaning.specs.Program.Routine.{routine}

@@ -1,7 +1,7 @@
 -- Weighted lists that agree entry by entry: equal weights, related outcomes.
 use Rattle.std.proofs.Common.{◌≡◌, ℕ, zero, suc, ◌+◌, ◌*◌, Bool, true, false, ◌&&◌, ◌||◌, if◌then◌else◌, leb, eqb, [], ◌∷◌, ◌++◌, refl, ap, ◌∙◌, subst}
-use Rattle.gb_coupling.specs.WeightedList.{WeightedList, mass, weight, total, bit, scale, bind, dmap}
-use Rattle.gb_coupling.specs.Existence.{passes_hall, passes_hall_beside, has_coupling}
+use Rattle.gb_dist.specs.WeightedList.{WeightedList, mass, weight, total, bit, scale, bind, dmap}
+use Rattle.gb_dist.specs.Existence.{passes_hall, passes_hall_beside, has_coupling}
 use Rattle.gb_meaning.specs.Memory.{Memory}
 use Rattle.gb_meaning.specs.Runs.{turns}
 pub use Rattle.gb_laws.specs.Pairs.{Zip}

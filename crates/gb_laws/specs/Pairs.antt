@@ -1,6 +1,6 @@
 -- Weighted lists that agree entry by entry, and what the ends of two runs have in common.
 use Rattle.std.specs.Prelude.{◌≡◌, [], ◌∷◌, ◌⊎◌}
-use Rattle.gb_coupling.specs.WeightedList.{WeightedList}
+use Rattle.gb_dist.specs.WeightedList.{WeightedList}
 use Rattle.gb_meaning.specs.Names.{Path, Map, get}
 use Rattle.gb_meaning.specs.Memory.{Memory}
 use Rattle.gb_laws.specs.Cells.{Key, get_at}

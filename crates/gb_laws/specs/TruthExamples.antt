@@ -11,8 +11,8 @@ use Rattle.gb_terms.specs.declared.term.Term.{Term}
 use Rattle.gb_terms.specs.declared.term.Cmd.{Cmd}
 use Rattle.gb_terms.specs.declared.term.Head.TheVariants.{Read, Sample, Body, Equiv, AllMemory, SomeMemory}
 use Rattle.gb_terms.specs.Make.{node}
-use Rattle.gb_coupling.specs.WeightedList.{WeightedList, weight, bit, On}
-use Rattle.gb_coupling.specs.Coupling.{Coupling}
+use Rattle.gb_dist.specs.WeightedList.{WeightedList, weight, bit, On}
+use Rattle.gb_dist.specs.Coupling.{Coupling}
 use Rattle.gb_meaning.specs.Names.{get}
 use Rattle.gb_meaning.specs.Values.{value_eq}
 use Rattle.gb_meaning.specs.Memory.{Memory, write_local, value_or}

@@ -2,7 +2,7 @@
 
 ghost use Rattle.std.specs.Prelude.{◌≡◌, List};
 ghost use Rattle.gb_core.specs.declared.value.Value.{Value};
-ghost use Rattle.gb_coupling.specs.WeightedList.{dmap, Every};
+ghost use Rattle.gb_dist.specs.WeightedList.{dmap, Every};
 ghost use Rattle.gb_meaning.specs.Names.{Path, Map, get, set};
 ghost use Rattle.gb_meaning.specs.Values.{Types};
 ghost use Rattle.gb_meaning.specs.Memory.{Memory};

@@ -4,7 +4,7 @@ ghost use Rattle.std.specs.Prelude.{◌≡◌, true, List, Some};
 ghost use Rattle.gb_core.specs.declared.ty.Ty.{Ty};
 ghost use Rattle.gb_core.specs.declared.value.Value.{Value};
 ghost use Rattle.gb_core.specs.declared.var.Var.{Var};
-ghost use Rattle.gb_coupling.specs.WeightedList.{Every};
+ghost use Rattle.gb_dist.specs.WeightedList.{Every};
 ghost use Rattle.gb_terms.specs.declared.decl.TypedName.{TypedName};
 ghost use Rattle.gb_meaning.specs.Names.{Map};
 ghost use Rattle.gb_meaning.specs.Values.{Types, has};

@@ -2,7 +2,7 @@
 use Rattle.std.proofs.Common.{List, map, arith}
 use Rattle.std.specs.List.{All}
 use Rattle.std.proofs.lemmas.List.Elements.{All-map}
-use Rattle.gb_grammar.specs.Reading.{IsKind}
+use Rattle.gb_script.specs.Parsing.{IsKind}
 use Rattle.gb_script.specs.declared.terminal.Terminal.{Terminal}
 use Rattle.gb_script.specs.declared.text.Lexeme.{Lexeme}
 use Rattle.gb_limits.specs.Kinds.{kind_of}

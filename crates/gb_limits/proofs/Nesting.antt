@@ -1,7 +1,7 @@
 -- Levels and brackets, token by token.
 use Rattle.std.proofs.Common.{◌≡◌, ℕ, suc, ◌+◌, ◌-◌, ◌≤◌, ◌<◌, List, [], ◌∷◌, length, refl, ap, sym, ◌∙◌, arith, add-one}
 use Rattle.std.proofs.lemmas.Bool.Decides.{nat_tests}
-use Rattle.gb_grammar.specs.declared.table.Step.{Step}
+use Rattle.gb_script.specs.declared.table.Step.{Step}
 use Rattle.gb_script.specs.declared.action.Rule.{Rule}
 use Rattle.gb_script.specs.declared.text.Text.{Text}
 use Rattle.gb_limits.specs.declared.level.Bracket.{Bracket as BracketDone}

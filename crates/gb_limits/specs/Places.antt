@@ -3,7 +3,7 @@ use Rattle.std.specs.Prelude.{◌≡◌, ℕ, ℤ, List}
 use Rattle.gb_core.specs.declared.place.Place.{Place}
 use Rattle.gb_core.specs.declared.refusal.Why.{Why}
 use Rattle.gb_core.specs.declared.refusal.Why.TheVariants.{Overflow}
-use Rattle.gb_grammar.specs.declared.table.Step.{Step}
+use Rattle.gb_script.specs.declared.table.Step.{Step}
 use Rattle.gb_script.specs.declared.action.Rule.{Rule}
 use Rattle.gb_script.specs.declared.text.Text.{Text}
 use Rattle.gb_script.specs.Text.{place_at}

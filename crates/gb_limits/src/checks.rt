@@ -13,8 +13,8 @@ use crate::level::CHAIN;
 use crate::limits::{first_long, first_too_deep};
 use crate::numbers::first_overflow;
 use gb_core::refusal::{Refused, Why};
-use gb_grammar::table::Step;
 use gb_script::action::Rule;
+use gb_script::table::Step;
 use gb_script::text::{Text, place_at};
 use std::alloc::Global;
 

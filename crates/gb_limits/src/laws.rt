@@ -2,8 +2,8 @@
 
 ghost use Rattle.std.specs.Prelude.{◌≡◌, ◌⊎◌, ℕ, ℤ, List};
 ghost use Rattle.std.specs.List.{All};
-ghost use Rattle.gb_grammar.specs.declared.table.Step.{Step};
-ghost use Rattle.gb_grammar.specs.Reading.{IsKind};
+ghost use Rattle.gb_script.specs.declared.table.Step.{Step};
+ghost use Rattle.gb_script.specs.Parsing.{IsKind};
 ghost use Rattle.gb_script.specs.declared.action.Rule.{Rule};
 ghost use Rattle.gb_script.specs.declared.text.Text.{Text};
 ghost use Rattle.gb_limits.specs.LeftOut.{IsFirstLeftOut, NoneLeftOut};

@@ -2,7 +2,7 @@
 
 ghost use Rattle.std.specs.Prelude.{◌≡◌, ◌≤◌, ◌<◌, ◌+◌, ◌-◌, ◌^◌, IfOk, OnOk, [], ◌∷◌, ◌++◌, length, take, drop};
 ghost use Rattle.std.specs.List.{All};
-ghost use Rattle.gb_grammar.specs.Reading.{IsKind};
+ghost use Rattle.gb_script.specs.Parsing.{IsKind};
 ghost use Rattle.gb_lex.specs.Lex.{AreSpans};
 ghost use Rattle.gb_lex.specs.PlaceAfter.{place_after};
 ghost use Rattle.gb_limits.specs.Lexeme.{spells, spelled_in, terminal_of, placed, text_at, kinds_of};

@@ -8,8 +8,8 @@ use crate::level::{
     Bracket, Levels, Opening, bracket_of, counted, enclose, fresh, is_long, nest, terminal_before,
 };
 use gb_core::Stack;
-use gb_grammar::table::Step;
 use gb_script::action::Rule;
+use gb_script::table::Step;
 use gb_script::text::{Text, terminal_at};
 use std::alloc::{AllocError, Global};
 

@@ -3,8 +3,8 @@ use Rattle.std.proofs.Common.{◌≡◌, true, false, List, [], ◌∷◌, Optio
 use Rattle.std.proofs.lemmas.Bool.{and_parts}
 use Rattle.gb_core.specs.declared.refusal.Why.TheVariants.{Shape, SideCondition}
 use Rattle.gb_core.specs.declared.var.Var.{Var}
-use Rattle.gb_coupling.specs.Coupling.{Coupling}
-use Rattle.gb_coupling.proofs.Basic.{coupling_weakening}
+use Rattle.gb_dist.specs.Coupling.{Coupling}
+use Rattle.gb_dist.proofs.Basic.{coupling_weakening}
 use Rattle.gb_terms.specs.declared.decl.TypedName.{TypedName}
 use Rattle.gb_terms.specs.declared.op.Side.{Side}
 use Rattle.gb_terms.specs.declared.op.Side.TheVariants as side
@@ -28,7 +28,7 @@ use Rattle.gb_goal.specs.Goal.Code.{body}
 use Rattle.gb_goal.specs.Goal.Goal.{equiv}
 use Rattle.gb_goal.specs.Scope.{Declarations}
 use Rattle.gb_goal.specs.declared.sequent.Sequent.{Sequent}
-use Rattle.gb_holds.specs.Declared.{declared}
+use Rattle.gb_meaning.specs.Declared.{declared}
 use Rattle.gb_typing.specs.Context.{Context}
 use Rattle.gb_typing.specs.Fits.{IsSettingOf, IsStateOf}
 use Rattle.gb_mods.specs.Exclusions.{exclusions}
@@ -53,7 +53,7 @@ use Rattle.gb_prog.specs.Writes.{Covers, DifferIn}
 use Rattle.gb_prog.proofs.AllValues.{all_values_typed, ends_in_two}
 use Rattle.gb_prog.proofs.Couplings.{runs_facts}
 use Rattle.gb_prog.proofs.LoopStatements.{statements_coupled}
-use Rattle.gb_parts.proofs.AssignedForms.{in_both}
+use Rattle.gb_prog.proofs.AssignedForms.{in_both}
 use Rattle.gb_call.specs.Call.{unless_clash}
 use Rattle.gb_call.proofs.After.{all_append}
 use Rattle.gb_prog.specs.Ends.{IsSoundOnLoops, LoopsEnd}

@@ -22,8 +22,8 @@ use Rattle.gb_typing.proofs.Both.{within_both}
 use Rattle.gb_typing.proofs.Spared.{Clear, spared_variables, spared_within}
 use Rattle.gb_prog.specs.AllValues.{AreAlone, in_memory}
 use Rattle.gb_prog.specs.Writes.{Covers, IsApart, IsOneOf, TypedVariable, variables}
-use Rattle.gb_parts.specs.Assigned.{clashing, is_clashing}
-use Rattle.gb_parts.proofs.AssignedForms.{EachAlone, NoClash, all_clear, fewer, in_both}
+use Rattle.gb_prog.specs.Assigned.{clashing, is_clashing}
+use Rattle.gb_prog.proofs.AssignedForms.{EachAlone, NoClash, all_clear, fewer, in_both}
 use Rattle.gb_call.specs.Outcomes.{is_among}
 use Rattle.gb_call.proofs.Conditions.{AllFalse, apart_from, each_among, nothing_filtered, nothing_least, one_of}
 use Rattle.gb_loops.specs.Read.{type_read, typed_before, read_among, read_in}

@@ -1,3 +1,4 @@
+pub mod GoalSteps
 pub mod LastLoops
 pub mod ReadSteps
 pub mod BodyWrites

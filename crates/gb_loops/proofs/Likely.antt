@@ -2,13 +2,13 @@
 use Rattle.std.proofs.Common.{◌≡◌, ℕ, suc, ◌*◌, ◌≤◌, ◌<◌, pos, negsuc, Bool, true, false, refl, arith}
 use Rattle.std.proofs.lemmas.Bool.{le-leb, leb-true}
 use Rattle.gb_terms.specs.declared.op.Rel.TheVariants as rel
-use Rattle.gb_coupling.specs.WeightedList.{WeightedList, Every, bit, mass, total, weight, bind}
-use Rattle.gb_coupling.proofs.Masses.{mass-bind_ge, mass-times}
-use Rattle.gb_coupling.proofs.Weights.{weight-le_total}
+use Rattle.gb_dist.specs.WeightedList.{WeightedList, Every, bit, mass, total, weight, bind}
+use Rattle.gb_dist.proofs.Masses.{mass-bind_ge, mass-times}
+use Rattle.gb_dist.proofs.Weights.{weight-le_total}
 use Rattle.gb_meaning.specs.Fractions.{Fraction}
 use Rattle.gb_meaning.specs.Judgments.{compares, chance}
 use Rattle.gb_meaning.specs.Memory.{Memory}
-use Rattle.gb_parts.proofs.Chances.{below, grown, product_positive}
+use Rattle.gb_prog.proofs.Chances.{below, grown, product_positive}
 use Rattle.gb_prog.proofs.Certain.{chance_one}
 
 -- Where a first event holds behind a first part, a second one is certain behind a second part, over the denominators d and e.

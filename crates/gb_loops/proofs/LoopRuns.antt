@@ -1,6 +1,6 @@
 -- Runs of a loop at the end of a body.
 use Rattle.std.proofs.Common.{◌≡◌, List, [], ◌∷◌, Some, subst}
-use Rattle.gb_coupling.specs.WeightedList.{Every}
+use Rattle.gb_dist.specs.WeightedList.{Every}
 use Rattle.gb_core.specs.declared.var.Var.{Var}
 use Rattle.gb_terms.specs.declared.decl.TypedName.{TypedName}
 use Rattle.gb_terms.specs.declared.term.Instr.{Instr}
@@ -11,8 +11,8 @@ use Rattle.gb_meaning.specs.Setting.{Setting}
 use Rattle.gb_meaning.specs.Sound.{IsSound}
 use Rattle.gb_meaning.specs.State.{State, closed}
 use Rattle.gb_goal.specs.Scope.{Declarations}
-use Rattle.gb_holds.specs.Declared.{declared}
-use Rattle.gb_holds.specs.Holds.{LoopsAreGood}
+use Rattle.gb_meaning.specs.Declared.{declared}
+use Rattle.gb_meaning.specs.Holds.{LoopsAreGood}
 use Rattle.gb_typing.specs.Context.{Context}
 use Rattle.gb_typing.specs.Fits.{IsSettingOf}
 use Rattle.gb_typing.specs.Meaning.{run}

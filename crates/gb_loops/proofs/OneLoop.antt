@@ -27,7 +27,7 @@ use Rattle.gb_prog.specs.Writes.{DifferIn}
 use Rattle.gb_prog.proofs.AllValues.{all_values_typed, ends_in_one}
 use Rattle.gb_prog.proofs.Blind.{blind_value}
 use Rattle.gb_prog.proofs.Frames.{placed}
-use Rattle.gb_parts.specs.Assigned.{clashing}
+use Rattle.gb_prog.specs.Assigned.{clashing}
 use Rattle.gb_loops.specs.LastLoop.{LastLoop}
 use Rattle.gb_loops.specs.Read.{read_among, read_in}
 use Rattle.gb_loops.specs.While.{at_end, before_loop, turning}

@@ -3,11 +3,11 @@ use Rattle.std.proofs.Common.{◌≡◌, ◌≤◌, ◌<◌, ◌*◌, suc, zero,
 use Rattle.std.proofs.lemmas.Bool.{false≢true, and_parts}
 use Rattle.gb_core.specs.declared.refusal.Why.TheVariants.{NotLossless, Shape, SideCondition}
 use Rattle.gb_core.specs.declared.var.Var.{Var}
-use Rattle.gb_coupling.specs.Coupling.{Coupling}
-use Rattle.gb_coupling.specs.WeightedList.{WeightedList, Every, bind, total, weight}
-use Rattle.gb_coupling.proofs.Basic.{coupling_weakening}
-use Rattle.gb_coupling.proofs.Entries.{Every-bind, Every-weaken}
-use Rattle.gb_coupling.proofs.Weights.{weight-le_every}
+use Rattle.gb_dist.specs.Coupling.{Coupling}
+use Rattle.gb_dist.specs.WeightedList.{WeightedList, Every, bind, total, weight}
+use Rattle.gb_dist.proofs.Basic.{coupling_weakening}
+use Rattle.gb_dist.proofs.Entries.{Every-bind, Every-weaken}
+use Rattle.gb_dist.proofs.Weights.{weight-le_every}
 use Rattle.gb_terms.specs.declared.decl.TypedName.{TypedName}
 use Rattle.gb_terms.specs.declared.op.Rel.{Rel}
 use Rattle.gb_terms.specs.declared.op.Rel.TheVariants as rel
@@ -32,7 +32,7 @@ use Rattle.gb_goal.specs.Goal.Code.{body, procedure}
 use Rattle.gb_goal.specs.Goal.Goal.{hoare, phoare, equiv, ambient}
 use Rattle.gb_goal.specs.Scope.{Declarations}
 use Rattle.gb_goal.specs.declared.sequent.Sequent.{Sequent}
-use Rattle.gb_holds.specs.Declared.{declared}
+use Rattle.gb_meaning.specs.Declared.{declared}
 use Rattle.gb_steps.specs.declared.step.Acts.{Acts}
 use Rattle.gb_steps.specs.declared.step.Acts.TheVariants as on
 use Rattle.gb_typing.specs.Context.{Context}
@@ -50,9 +50,9 @@ use Rattle.gb_typing.proofs.Drawing.{body_sound}
 use Rattle.gb_typing.proofs.Fitting.{state_at, state_between}
 use Rattle.gb_typing.proofs.Given.{refused_at, refused_given, same_given}
 use Rattle.gb_typing.proofs.Runs.{coupled_in_turn, denominator_append, run_append}
-use Rattle.gb_parts.specs.Compared.{literal}
+use Rattle.gb_prog.specs.Compared.{literal}
 use Rattle.gb_full.specs.Loss.{Loss, nowhere, sampled, called, first_loss}
-use Rattle.gb_parts.proofs.Comparing.{literal_value}
+use Rattle.gb_prog.proofs.Comparing.{literal_value}
 use Rattle.gb_full.proofs.Full.{total_full}
 use Rattle.gb_full.specs.Lossless.{full}
 use Rattle.gb_prog.proofs.Certain.{certain_everywhere}
@@ -60,8 +60,8 @@ use Rattle.gb_prog.proofs.Couplings.{runs_facts}
 use Rattle.gb_prog.proofs.LoopStatements.{statement_certain, statement_invariant, statement_left, statement_right}
 use Rattle.gb_prog.proofs.Turns.{every_both}
 use Rattle.gb_prog.specs.Writes.{DifferIn}
-use Rattle.gb_parts.specs.Assigned.{clashing}
-use Rattle.gb_parts.specs.OneBody.{OneBody}
+use Rattle.gb_prog.specs.Assigned.{clashing}
+use Rattle.gb_prog.specs.OneBody.{OneBody}
 use Rattle.gb_call.specs.Call.{unless_clash}
 use Rattle.gb_prog.specs.Ends.{IsSoundLoopRule, IsSoundOnLoops, LoopsEnd}
 use Rattle.gb_forms.specs.Loops.{written}

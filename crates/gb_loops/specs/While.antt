@@ -23,10 +23,10 @@ use Rattle.gb_typing.specs.Sequents.{one, two}
 use Rattle.gb_typing.specs.Typing.{IsForm}
 use Rattle.gb_walk.specs.Clash.{least}
 use Rattle.gb_prog.specs.AllValues.{Located, all_values}
-use Rattle.gb_parts.specs.Assigned.{clashing, is_clashing}
-use Rattle.gb_parts.specs.OneBody.{OneBody, on_one, one_body}
+use Rattle.gb_prog.specs.Assigned.{clashing, is_clashing}
+use Rattle.gb_prog.specs.OneBody.{OneBody, on_one, one_body}
 use Rattle.gb_call.specs.Call.{unless_clash}
-use Rattle.gb_parts.specs.Compared.{literal}
+use Rattle.gb_prog.specs.Compared.{literal}
 use Rattle.gb_full.specs.Loss.{first_loss}
 use Rattle.gb_full.specs.Lossless.{full}
 use Rattle.gb_forms.specs.Loops.{turn_goal, written}

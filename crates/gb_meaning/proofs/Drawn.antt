@@ -6,9 +6,9 @@ use Rattle.std.proofs.lemmas.Bool.{false≢true, ltb-true, and_parts}
 use Rattle.gb_core.specs.declared.ty.Ty.{Ty}
 use Rattle.gb_core.specs.declared.value.Value.{Value}
 use Rattle.gb_types.specs.Numbering.{Numbering}
-use Rattle.gb_coupling.specs.WeightedList.{WeightedList, total, unit, dmap, scale, IsPositive}
-use Rattle.gb_coupling.proofs.Masses.{mass-append, mass-scale, mass-dmap, total-bind}
-use Rattle.gb_coupling.proofs.Entries.{On-append, On-scale, On-bind, On-dmap}
+use Rattle.gb_dist.specs.WeightedList.{WeightedList, total, unit, dmap, scale, IsPositive}
+use Rattle.gb_dist.proofs.Masses.{mass-append, mass-scale, mass-dmap, total-bind}
+use Rattle.gb_dist.proofs.Entries.{On-append, On-scale, On-bind, On-dmap}
 use Rattle.gb_terms.specs.declared.op.Op.{Op}
 use Rattle.gb_terms.specs.declared.op.Op.TheVariants as op
 use Rattle.gb_terms.specs.declared.term.Pair.{Pair}

@@ -1,10 +1,10 @@
 -- A loop whose variant falls is good.
 use Rattle.std.proofs.Common.{◌≡◌, ℕ, zero, suc, ◌+◌, ◌*◌, ◌-◌, ◌^◌, ◌<◌, ◌≤◌, Bool, true, false, if◌then◌else◌, [], ◌∷◌, refl, ap, sym, ◌∙◌, arith}
 use Rattle.std.proofs.lemmas.Nat.{pow-add}
-use Rattle.gb_coupling.specs.WeightedList.{WeightedList, mass, scale, bind, Every, SameDistribution}
-use Rattle.gb_coupling.proofs.Masses.{mass-scale}
-use Rattle.gb_coupling.proofs.Monad.{bind-unit_right}
-use Rattle.gb_coupling.proofs.Entries.{Every-bind}
+use Rattle.gb_dist.specs.WeightedList.{WeightedList, mass, scale, bind, Every, SameDistribution}
+use Rattle.gb_dist.proofs.Masses.{mass-scale}
+use Rattle.gb_dist.proofs.Monad.{bind-unit_right}
+use Rattle.gb_dist.proofs.Entries.{Every-bind}
 use Rattle.gb_terms.specs.declared.term.Term.{Term}
 use Rattle.gb_meaning.specs.Memory.{Memory}
 use Rattle.gb_meaning.specs.Program.{Program}

@@ -2,8 +2,8 @@
 use Rattle.std.proofs.Common.{ℕ, zero, suc, ◌-◌, ◌^◌, ◌<◌, Bool, true, false, if◌then◌else◌, List, map, arith}
 use Rattle.std.proofs.Math.Nat.{mul-pos, pow-suc, pow-zero}
 use Rattle.gb_core.specs.declared.value.Value.{Value}
-use Rattle.gb_coupling.specs.WeightedList.{WeightedList, IsPositive}
-use Rattle.gb_coupling.proofs.Entries.{On-scale, On-bind, On-dmap}
+use Rattle.gb_dist.specs.WeightedList.{WeightedList, IsPositive}
+use Rattle.gb_dist.proofs.Entries.{On-scale, On-bind, On-dmap}
 use Rattle.gb_meaning.specs.Names.{Map}
 use Rattle.gb_meaning.specs.Memory.{Memory}
 use Rattle.gb_meaning.specs.Program.{Program, Routine}

@@ -1,8 +1,8 @@
 -- A run of two programs, one behind the other.
 use Rattle.std.proofs.Common.{◌≡◌, ℕ, ◌*◌, ◌^◌, ap, sym, ◌∙◌, arith}
 use Rattle.std.proofs.Math.Path.{fun_ext}
-use Rattle.gb_coupling.specs.WeightedList.{WeightedList, bind}
-use Rattle.gb_coupling.proofs.Monad.{bind-unit, bind-bind}
+use Rattle.gb_dist.specs.WeightedList.{WeightedList, bind}
+use Rattle.gb_dist.proofs.Monad.{bind-unit, bind-bind}
 use Rattle.gb_meaning.specs.Memory.{Memory}
 use Rattle.gb_meaning.specs.Program.{Program, followed_by}
 use Rattle.gb_meaning.specs.Program.Program.{done, assign, sample, branch, loop, call, ask}

@@ -3,8 +3,8 @@ use Rattle.std.proofs.Common.{◌≡◌, ℕ, zero, suc, ◌+◌, ◌*◌, ◌-�
 use Rattle.std.proofs.Math.Nat.{pow-suc, pow-zero}
 use Rattle.std.proofs.lemmas.Nat.{pow-add}
 use Rattle.gb_core.specs.declared.value.Value.{Value}
-use Rattle.gb_coupling.specs.WeightedList.{WeightedList, mass, total, scale, bind, Every}
-use Rattle.gb_coupling.proofs.Masses.{mass-scale, mass-dmap, mass-bind, mass-constant, mass-le_every, total-bind}
+use Rattle.gb_dist.specs.WeightedList.{WeightedList, mass, total, scale, bind, Every}
+use Rattle.gb_dist.proofs.Masses.{mass-scale, mass-dmap, mass-bind, mass-constant, mass-le_every, total-bind}
 use Rattle.gb_terms.specs.declared.term.Term.{Term}
 use Rattle.gb_meaning.specs.Names.{Map}
 use Rattle.gb_meaning.specs.Memory.{Memory}

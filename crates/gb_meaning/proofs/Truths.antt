@@ -10,8 +10,8 @@ use Rattle.gb_terms.specs.declared.term.Subject.{Subject}
 use Rattle.gb_terms.specs.declared.term.Head.{Head}
 use Rattle.gb_terms.specs.declared.term.Head.TheVariants as head
 use Rattle.gb_terms.specs.Make.{node, applied}
-use Rattle.gb_coupling.specs.WeightedList.{Every}
-use Rattle.gb_coupling.specs.Coupling.{Coupling}
+use Rattle.gb_dist.specs.WeightedList.{Every}
+use Rattle.gb_dist.specs.Coupling.{Coupling}
 use Rattle.gb_meaning.specs.Values.{values, has}
 use Rattle.gb_meaning.specs.Memory.{Memory}
 use Rattle.gb_meaning.specs.Setting.{Setting}

@@ -4,7 +4,7 @@ use Rattle.gb_core.specs.declared.value.Value.{Value}
 use Rattle.gb_core.specs.declared.value.Value.TheVariants.{Num, Many}
 use Rattle.gb_types.specs.Numbering.{Numbering}
 use Rattle.gb_terms.specs.declared.term.Pair.{Pair}
-use Rattle.gb_coupling.specs.WeightedList.{WeightedList, bind, dmap}
+use Rattle.gb_dist.specs.WeightedList.{WeightedList, bind, dmap}
 
 -- the fair coin, over 2
 abbrev pub coin : WeightedList Value

@@ -1,7 +1,7 @@
 -- Trees of distributions, and programs that sample from such trees alone: tests of trees, with no word of weights.
 use Rattle.std.specs.Prelude.{◌≡◌, ◌<◌, ◌≤◌, Bool, true, false, ◌&&◌, nat_lt, List, [], ◌∷◌}
 use Rattle.gb_core.specs.declared.ty.Ty.{Ty}
-use Rattle.gb_coupling.specs.WeightedList.{total, IsPositive}
+use Rattle.gb_dist.specs.WeightedList.{total, IsPositive}
 use Rattle.gb_terms.specs.declared.op.Op.{Op}
 use Rattle.gb_terms.specs.declared.op.Op.TheVariants as op
 use Rattle.gb_terms.specs.declared.term.Pair.{Pair}

@@ -9,8 +9,8 @@ use Rattle.gb_terms.specs.declared.term.Head.{Head}
 use Rattle.gb_terms.specs.declared.term.Head.TheVariants as head
 use Rattle.gb_terms.specs.declared.term.Head.TheVariants.{Proc, Body'}
 use Rattle.gb_terms.specs.declared.term.Subject.{Subject}
-use Rattle.gb_coupling.specs.WeightedList.{WeightedList, weight, Every}
-use Rattle.gb_coupling.specs.Coupling.{Coupling}
+use Rattle.gb_dist.specs.WeightedList.{WeightedList, weight, Every}
+use Rattle.gb_dist.specs.Coupling.{Coupling}
 use Rattle.gb_meaning.specs.Fractions.{Fraction, is_at_most, is_same}
 use Rattle.gb_meaning.specs.Memory.{Memory}
 use Rattle.gb_meaning.specs.Program.{Routine}

@@ -1,6 +1,6 @@
 -- Loops that end.
 use Rattle.std.specs.Prelude.{◌≡◌, ℕ, ◌^◌, false}
-use Rattle.gb_coupling.specs.WeightedList.{Every, SameDistribution}
+use Rattle.gb_dist.specs.WeightedList.{Every, SameDistribution}
 use Rattle.gb_terms.specs.declared.term.Term.{Term}
 use Rattle.gb_meaning.specs.Memory.{Memory}
 use Rattle.gb_meaning.specs.Program.{Program}

@@ -5,7 +5,7 @@ use Rattle.gb_core.specs.declared.ty.Ty.TheVariants as ty
 use Rattle.gb_core.specs.declared.value.Value.{Value}
 use Rattle.gb_core.specs.declared.value.Value.TheVariants.{Num, Many}
 use Rattle.gb_types.specs.Numbering.{Numbering, parts_of, first_or, key_of, value_of}
-use Rattle.gb_coupling.specs.WeightedList.{weight, unit}
+use Rattle.gb_dist.specs.WeightedList.{weight, unit}
 use Rattle.gb_terms.specs.declared.op.Op.{Op}
 use Rattle.gb_terms.specs.declared.op.Op.TheVariants as op
 use Rattle.gb_meaning.specs.Values.{Types, values, first, value_eq}

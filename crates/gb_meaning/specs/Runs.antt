@@ -6,7 +6,7 @@ use Rattle.gb_core.specs.declared.value.Value.{Value}
 use Rattle.gb_core.specs.declared.var.Var.{Var}
 use Rattle.gb_terms.specs.declared.decl.TypedName.{TypedName}
 use Rattle.gb_terms.specs.declared.term.Term.{Term, Term'}
-use Rattle.gb_coupling.specs.WeightedList.{WeightedList, unit, bind, dmap, scale}
+use Rattle.gb_dist.specs.WeightedList.{WeightedList, unit, bind, dmap, scale}
 use Rattle.gb_meaning.specs.Names.{Map}
 use Rattle.gb_meaning.specs.Memory.{Memory, assigned, write, first_values, arguments, outcome, result_in, read_local}
 use Rattle.gb_meaning.specs.Program.{Program, Routine}

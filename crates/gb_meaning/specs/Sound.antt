@@ -1,6 +1,6 @@
 -- Programs that draw from distributions alone, and programs that never lose weight.
 use Rattle.std.specs.Prelude.{◌≡◌, ◌<◌, ◌≤◌}
-use Rattle.gb_coupling.specs.WeightedList.{total, IsPositive}
+use Rattle.gb_dist.specs.WeightedList.{total, IsPositive}
 use Rattle.gb_terms.specs.declared.term.Term.{Term}
 use Rattle.gb_meaning.specs.Program.{Program, Routine}
 use Rattle.gb_meaning.specs.Program.Program.{done, assign, sample, branch, loop, call, ask}

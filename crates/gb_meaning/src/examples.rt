@@ -4,7 +4,7 @@ ghost use Rattle.std.specs.Prelude.{◌≡◌, ℕ, ◌^◌, [], ◌∷◌, pos}
 ghost use Rattle.gb_core.specs.declared.value.Value.{Value};
 ghost use Rattle.gb_core.specs.declared.value.Value.TheVariants.{Num};
 ghost use Rattle.gb_core.specs.declared.ty.Ty.TheVariants.{Bool, Bits, Mod, Real};
-ghost use Rattle.gb_coupling.specs.WeightedList.{dmap, total};
+ghost use Rattle.gb_dist.specs.WeightedList.{dmap, total};
 ghost use Rattle.gb_terms.specs.declared.op.Op.TheVariants.{Mu1};
 ghost use Rattle.gb_meaning.specs.Values.{Types};
 ghost use Rattle.gb_meaning.specs.Memory.{Memory, read_local, write_local};

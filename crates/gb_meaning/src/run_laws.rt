@@ -3,7 +3,7 @@
 ghost use Rattle.std.specs.Prelude.{◌≡◌, Bool, true, false, ◌<◌, ◌≤◌, ◌*◌, List};
 ghost use Rattle.gb_core.specs.declared.value.Value.{Value};
 ghost use Rattle.gb_terms.specs.declared.term.Term.{Term};
-ghost use Rattle.gb_coupling.specs.WeightedList.{total, bind, Every, IsPositive};
+ghost use Rattle.gb_dist.specs.WeightedList.{total, bind, Every, IsPositive};
 ghost use Rattle.gb_meaning.specs.Names.{Map};
 ghost use Rattle.gb_meaning.specs.Memory.{Memory};
 ghost use Rattle.gb_meaning.specs.Program.{Program, Routine, followed_by};

@@ -7,7 +7,7 @@ use Rattle.gb_terms.specs.declared.term.Term.{Term}
 use Rattle.gb_terms.specs.declared.term.Head.TheBlock as B
 use Rattle.gb_terms.specs.declared.term.Head.TheVariants.{Call, If, While}
 use Rattle.gb_terms.specs.declared.term.Instr.{Instr, Row_of-Instr, end_of-Instr, more_of-Instr}
-use Rattle.gb_holds.specs.Footprints.{variables}
+use Rattle.gb_meaning.specs.Footprints.{variables}
 use Rattle.gb_mods.specs.Read.{each_read, row_read, statement_read}
 use Rattle.gb_mods.specs.Touched.{each_variables}
 use Rattle.gb_mods.proofs.TouchedSteps.{variables_list}

@@ -7,7 +7,7 @@ use Rattle.gb_terms.specs.declared.term.Term.{Term, Term', Row_of-Term, end_of-T
 use Rattle.gb_terms.specs.declared.term.Head.TheBlock as B
 use Rattle.gb_terms.specs.declared.term.Head.TheVariants.{Call, If, While}
 use Rattle.gb_terms.specs.declared.term.Instr.{Instr, Row_of-Instr, end_of-Instr, more_of-Instr}
-use Rattle.gb_holds.specs.Footprints.{head_variables, touched_in, variables, variables_in}
+use Rattle.gb_meaning.specs.Footprints.{head_variables, touched_in, variables, variables_in}
 use Rattle.gb_walk.proofs.ClashSteps.{out_row}
 use Rattle.gb_mods.specs.Touched.{apart, each_touched, each_variables, statement_touched}
 use mathlib.Core.Former.{Count}

@@ -11,7 +11,7 @@ use Rattle.gb_goal.specs.Scope.{Declarations}
 use Rattle.gb_mods.specs.declared.meant.Meant.{Meant}
 use Rattle.gb_mods.specs.declared.meant.Meant.TheVariants.{Unknown, Declared, Any}
 use Rattle.gb_mods.specs.Meant.{in_front, meant_by}
-use Rattle.gb_holds.specs.Footprints.{globals_among, variables, variables_in}
+use Rattle.gb_meaning.specs.Footprints.{globals_among, variables, variables_in}
 use Rattle.gb_mods.specs.Called.{all_reached}
 use Rattle.gb_mods.specs.Order.{joined}
 

@@ -8,7 +8,7 @@ use Rattle.gb_terms.specs.declared.term.Instr.{Instr}
 use Rattle.gb_terms.specs.declared.term.Term.{Term}
 use Rattle.gb_mods.specs.declared.meant.Meant.{Meant}
 use Rattle.gb_mods.specs.declared.meant.Meant.TheVariants.{Unknown, Declared, Any}
-use Rattle.gb_holds.specs.Footprints.{body_touched, globals_among, touched, variables}
+use Rattle.gb_meaning.specs.Footprints.{body_touched, globals_among, touched, variables}
 
 -- what is called is looked at apart
 abbrev pub apart : ProcRef → Option (List Var)

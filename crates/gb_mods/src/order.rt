@@ -2,7 +2,7 @@
 
 ghost use Rattle.std.specs.Prelude.{◌≡◌, [], ◌∷◌, ◌++◌, IfOk};
 ghost use Rattle.gb_core.specs.declared.var.Var.TheVariants.{Glob};
-ghost use Rattle.gb_holds.specs.Footprints.{globals_among};
+ghost use Rattle.gb_meaning.specs.Footprints.{globals_among};
 ghost use Rattle.gb_mods.specs.Order.{joined, placed};
 
 use gb_core::copy::copy_var;

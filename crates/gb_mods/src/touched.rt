@@ -1,7 +1,7 @@
 //! Which variables statements read or write.
 
 ghost use Rattle.std.specs.Prelude.{◌≡◌, ◌++◌, IfOk};
-ghost use Rattle.gb_holds.specs.Footprints.{globals_among, head_variables, variables};
+ghost use Rattle.gb_meaning.specs.Footprints.{globals_among, head_variables, variables};
 ghost use Rattle.gb_mods.specs.Touched.{each_touched, each_variables, statement_touched, touched_in, touched_itself};
 
 use crate::meant::Meant;

@@ -1,7 +1,7 @@
 //! Which variables statements and procedures write.
 
 ghost use Rattle.std.specs.Prelude.{◌≡◌, ◌++◌, IfOk};
-ghost use Rattle.gb_holds.specs.Footprints.{globals_among};
+ghost use Rattle.gb_meaning.specs.Footprints.{globals_among};
 ghost use Rattle.gb_mods.specs.Written.{statement_targets, targets, written_by, written_itself};
 
 use crate::meant::{Meant, meant_by};

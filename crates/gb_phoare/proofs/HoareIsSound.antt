@@ -4,8 +4,8 @@ use Rattle.std.specs.List.{AllByRecursion}
 use Rattle.std.proofs.lemmas.Bool.{false≢true}
 use Rattle.gb_core.specs.declared.refusal.Why.TheVariants.{Shape, NotLossless}
 use Rattle.gb_core.specs.declared.ty.Ty.TheVariants as ty
-use Rattle.gb_coupling.specs.WeightedList.{total, Every}
-use Rattle.gb_coupling.proofs.Entries.{Every-weaken}
+use Rattle.gb_dist.specs.WeightedList.{total, Every}
+use Rattle.gb_dist.proofs.Entries.{Every-weaken}
 use Rattle.gb_terms.specs.declared.decl.TypedName.{TypedName}
 use Rattle.gb_terms.specs.declared.module.ProcRef.{ProcRef}
 use Rattle.gb_terms.specs.declared.op.Rel.TheVariants.{AtMost, Equal, AtLeast}
@@ -23,7 +23,7 @@ use Rattle.gb_meaning.specs.Runs.{parameter_values}
 use Rattle.gb_meaning.specs.Written.{type_of}
 use Rattle.gb_meaning.proofs.Runs.{routine_positive, run_positive}
 use Rattle.gb_meaning.proofs.Truths.{true_not}
-use Rattle.gb_holds.specs.Declared.{declared}
+use Rattle.gb_meaning.specs.Declared.{declared}
 use Rattle.gb_goal.specs.declared.sequent.Sequent.{Sequent}
 use Rattle.gb_goal.specs.Answers.{◌>>=◌}
 use Rattle.gb_goal.specs.Answers.Answer.{given}
@@ -45,12 +45,12 @@ use Rattle.gb_typing.specs.Rules.{IsSettingOver, ImpliesIn, IsSoundRuleIn, no_ar
 use Rattle.gb_typing.specs.Goals.{IsCode, IsGoalOver, IsTypedGoal, frame_after}
 use Rattle.gb_typing.proofs.Forms.{not_typed}
 use Rattle.gb_typing.proofs.Given.{refused_given, sound_given_in}
-use Rattle.gb_parts.specs.Compared.{literal}
-use Rattle.gb_parts.specs.Compared as real
+use Rattle.gb_prog.specs.Compared.{literal}
+use Rattle.gb_prog.specs.Compared as real
 use Rattle.gb_full.specs.Loss.{Loss, nowhere, sampled, called, code_loss}
-use Rattle.gb_parts.proofs.Bound.{bound_value}
-use Rattle.gb_parts.proofs.Chances.{certain, impossible, at_least_certain, at_most_impossible}
-use Rattle.gb_parts.proofs.Comparing.{number_made, real_made, compared_typed, number_is, compared_is, literal_value}
+use Rattle.gb_prog.proofs.Bound.{bound_value}
+use Rattle.gb_prog.proofs.Chances.{certain, impossible, at_least_certain, at_most_impossible}
+use Rattle.gb_prog.proofs.Comparing.{number_made, real_made, compared_typed, number_is, compared_is, literal_value}
 use Rattle.gb_full.proofs.Full.{IsWholeProcedure, procedure_whole, total_full}
 use Rattle.gb_full.specs.Lossless.{full}
 use Rattle.gb_phoare.specs.Hoare.{never, at_most_goals, at_least_goals, exactly, hoare_row}

@@ -14,10 +14,10 @@ use Rattle.gb_terms.specs.declared.op.Side.TheVariants as side
 use Rattle.gb_terms.specs.declared.term.Term.{Term}
 use Rattle.gb_terms.specs.declared.term.Head.TheVariants as head
 use Rattle.gb_terms.specs.declared.term.Instr.{Instr}
-use Rattle.gb_coupling.specs.WeightedList.{WeightedList, Every, IsInSupport, total, weight, bit, bind}
-use Rattle.gb_coupling.proofs.Entries.{Every-weaken}
-use Rattle.gb_coupling.proofs.Indicators.{On_of_support}
-use Rattle.gb_coupling.proofs.Masses.{mass-dmap, mass-on}
+use Rattle.gb_dist.specs.WeightedList.{WeightedList, Every, IsInSupport, total, weight, bit, bind}
+use Rattle.gb_dist.proofs.Entries.{Every-weaken}
+use Rattle.gb_dist.proofs.Indicators.{On_of_support}
+use Rattle.gb_dist.proofs.Masses.{mass-dmap, mass-on}
 use Rattle.gb_meaning.specs.Commands.{statements}
 use Rattle.gb_meaning.specs.Fractions.{Fraction}
 use Rattle.gb_meaning.specs.Memory.{Memory, write}
@@ -53,7 +53,7 @@ use Rattle.gb_goal.specs.Answers.Answer.{given}
 use Rattle.gb_goal.specs.Goal.{Goal}
 use Rattle.gb_goal.specs.Scope.{Declarations}
 use Rattle.gb_goal.specs.declared.sequent.Sequent.{Sequent}
-use Rattle.gb_holds.specs.Declared.{declared}
+use Rattle.gb_meaning.specs.Declared.{declared}
 use Rattle.gb_goal.specs.Goal.Code.{body, procedure}
 use Rattle.gb_goal.specs.Goal.Goal.{hoare, phoare, equiv, ambient}
 use Rattle.gb_walk.specs.Clash.{first_clash}
@@ -75,11 +75,11 @@ use Rattle.gb_typing.proofs.Runs.{run_append, denominator_append}
 use Rattle.gb_typing.proofs.LastSampling.{IsDrawn, drawn, last_one}
 use Rattle.gb_typing.proofs.Supported.{nearest_made, draws, drawn_typed, run_sampling, sampling_denominator, target_put}
 use Rattle.gb_forms.specs.Drawn.{with_value}
-use Rattle.gb_parts.specs.Compared.{compared, zero}
+use Rattle.gb_prog.specs.Compared.{compared, zero}
 use Rattle.gb_full.specs.Loss.{Loss, nowhere, sampled, called, first_loss}
-use Rattle.gb_parts.proofs.Bound.{bound_made, bound_is, bound_value}
-use Rattle.gb_parts.proofs.Chances.{after_full, after_less}
-use Rattle.gb_parts.proofs.Comparing.{number_made, real_made, compared_typed, number_is, compared_is}
+use Rattle.gb_prog.proofs.Bound.{bound_made, bound_is, bound_value}
+use Rattle.gb_prog.proofs.Chances.{after_full, after_less}
+use Rattle.gb_prog.proofs.Comparing.{number_made, real_made, compared_typed, number_is, compared_is}
 use Rattle.gb_full.proofs.Full.{total_full}
 use Rattle.gb_full.specs.Lossless.{of_rest}
 use Rattle.gb_phoare.specs.Rnd.{measured, without_sampling, unless_clash, by_end, rnd_row}

@@ -10,8 +10,8 @@ use Rattle.gb_goal.specs.Goal.Goal.{hoare, phoare, ambient}
 use Rattle.gb_goal.specs.Rows.{Row, refusing}
 use Rattle.gb_goal.specs.Scope.{Declarations}
 use Rattle.gb_typing.specs.Forms.{not_form}
-use Rattle.gb_parts.specs.Compared.{at_most_form, literal}
-use Rattle.gb_parts.specs.Compared as real
+use Rattle.gb_prog.specs.Compared.{at_most_form, literal}
+use Rattle.gb_prog.specs.Compared as real
 use Rattle.gb_full.specs.Loss.{Loss, code_loss}
 use Rattle.gb_full.specs.Lossless.{full}
 

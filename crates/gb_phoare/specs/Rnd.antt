@@ -15,7 +15,7 @@ use Rattle.gb_goal.specs.Goal.Goal.{hoare, phoare}
 use Rattle.gb_goal.specs.Rows.{Row, refusing}
 use Rattle.gb_goal.specs.Scope.{Declarations}
 use Rattle.gb_typing.specs.Samplings.{Sampling, last_sampling}
-use Rattle.gb_parts.specs.Compared.{compared}
+use Rattle.gb_prog.specs.Compared.{compared}
 use Rattle.gb_full.specs.Loss.{first_loss}
 use Rattle.gb_full.specs.Lossless.{of_rest}
 use Rattle.gb_forms.specs.Drawn.{with_value}

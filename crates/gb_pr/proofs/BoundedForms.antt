@@ -11,8 +11,8 @@ use Rattle.gb_meaning.specs.Written.{type_of}
 use Rattle.gb_typing.specs.Context.{Context}
 use Rattle.gb_typing.specs.Typing.{IsForm, IsTyped}
 use Rattle.gb_typing.proofs.Made.{parts_typed}
-use Rattle.gb_parts.specs.Compared.{compared}
-use Rattle.gb_chances.specs.Chances.{Chance, Bounded, bounded_by, bounded_in, bounded_of, chance_of, compared_of, speaks, unless}
+use Rattle.gb_prog.specs.Compared.{compared}
+use Rattle.gb_steps.specs.Chances.{Chance, Bounded, bounded_by, bounded_in, bounded_of, chance_of, compared_of, speaks, unless}
 use Rattle.gb_pr.proofs.ChanceForms.{comparison_is}
 
 -- a probability that is compared with a bound

@@ -10,7 +10,7 @@ use Rattle.gb_meaning.specs.Judgments.{Judge, IsFair, IsTrueUnder, den}
 use Rattle.gb_meaning.specs.Memory.{Memory, result_name}
 use Rattle.gb_meaning.specs.Setting.{Setting}
 use Rattle.gb_meaning.specs.State.{State, at, between}
-use Rattle.gb_holds.specs.Declared.{declared}
+use Rattle.gb_meaning.specs.Declared.{declared}
 use Rattle.gb_goal.specs.Answers.Answer.{given}
 use Rattle.gb_goal.specs.Goal.{Goal}
 use Rattle.gb_goal.specs.Goal.Code.{procedure}
@@ -31,8 +31,8 @@ use Rattle.gb_typing.specs.Typing.{IsForm, IsThere, after, before}
 use Rattle.gb_typing.proofs.Ambient.{pair_meaning, pair_typed}
 use Rattle.gb_typing.proofs.Forms.{implies_typed, implies_use}
 use Rattle.gb_typing.proofs.Given.{refused_given, sound_given_in}
-use Rattle.gb_parts.proofs.Likely.{FollowsAt, as_likely_typed, likely_at}
-use Rattle.gb_chances.specs.Chances.{Compared, chances_of}
+use Rattle.gb_prog.proofs.Likely.{FollowsAt, as_likely_typed, likely_at}
+use Rattle.gb_steps.specs.Chances.{Compared, chances_of}
 use Rattle.gb_pr.specs.ByEquiv.{beside, by_equiv_at, by_equiv_goals, by_equiv_of, by_equiv_row}
 use Rattle.gb_pr.specs.ByEquiv as by_equiv
 use Rattle.gb_pr.specs.Rows.{IsTypedAt}

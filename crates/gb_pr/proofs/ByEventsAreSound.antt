@@ -4,9 +4,9 @@ use Rattle.std.proofs.lemmas.Bool.{and_parts, le-leb}
 use Rattle.std.proofs.lemmas.Bool.Decides.{Decides-int_eq}
 use Rattle.std.specs.List.{AllByRecursion}
 use Rattle.gb_core.specs.declared.refusal.Why.TheVariants.{Shape}
-use Rattle.gb_coupling.specs.WeightedList.{WeightedList, bit, weight}
-use Rattle.gb_coupling.proofs.Masses.{mass-same}
-use Rattle.gb_coupling.proofs.Weights.{weight-le}
+use Rattle.gb_dist.specs.WeightedList.{WeightedList, bit, weight}
+use Rattle.gb_dist.proofs.Masses.{mass-same}
+use Rattle.gb_dist.proofs.Weights.{weight-le}
 use Rattle.gb_terms.specs.declared.decl.TypedName.{TypedName}
 use Rattle.gb_terms.specs.declared.op.Rel.{Rel}
 use Rattle.gb_terms.specs.declared.op.Rel.TheVariants.{AtMost, Equal, AtLeast}
@@ -19,7 +19,7 @@ use Rattle.gb_meaning.specs.Setting.{Setting}
 use Rattle.gb_meaning.specs.Setting.Meaning.{fraction}
 use Rattle.gb_meaning.specs.State.{State, at, memory_of}
 use Rattle.gb_meaning.specs.Terms.{val}
-use Rattle.gb_holds.specs.Declared.{Declarations}
+use Rattle.gb_meaning.specs.Declared.{Declarations}
 use Rattle.gb_goal.specs.Answers.Answer.{given}
 use Rattle.gb_goal.specs.Goal.{Goal}
 use Rattle.gb_goal.specs.Goal.Goal.{hoare, phoare, equiv, ambient}
@@ -32,9 +32,9 @@ use Rattle.gb_typing.specs.Rules.{ImpliesIn, IsSoundRuleIn, no_arguments, outerm
 use Rattle.gb_typing.specs.Typing.{IsForm, IsTyped, after}
 use Rattle.gb_typing.proofs.Ambient.{one_meaning, one_typed}
 use Rattle.gb_typing.proofs.Given.{refused_given, sound_given_in}
-use Rattle.gb_parts.specs.Likely.{as_likely}
-use Rattle.gb_parts.proofs.Likely.{FollowsAt, as_likely_typed, likely_at}
-use Rattle.gb_chances.specs.Chances.{Compared, chances_of}
+use Rattle.gb_prog.specs.Likely.{as_likely}
+use Rattle.gb_prog.proofs.Likely.{FollowsAt, as_likely_typed, likely_at}
+use Rattle.gb_steps.specs.Chances.{Compared, chances_of}
 use Rattle.gb_pr.specs.ByEvents.{by_events_goals, by_events_of, by_events_row, same_rel, same_start}
 use Rattle.gb_pr.proofs.ChanceForms.{AreCompared, IsTypedChance, are_compared, chance_typed, chance_value, comparison_says, sides_typed}
 use Rattle.gb_pr.proofs.SameStarts.{HaveOneStart, one_start}

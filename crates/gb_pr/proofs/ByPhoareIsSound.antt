@@ -26,7 +26,7 @@ use Rattle.gb_goal.specs.Goal.{Goal}
 use Rattle.gb_goal.specs.Goal.Code.{procedure}
 use Rattle.gb_goal.specs.Goal.Goal.{hoare, phoare, equiv, ambient}
 use Rattle.gb_goal.specs.Scope.{Declarations, procedure_of}
-use Rattle.gb_holds.specs.Declared.{declared}
+use Rattle.gb_meaning.specs.Declared.{declared}
 use Rattle.gb_steps.specs.declared.step.Conditions.{Conditions}
 use Rattle.gb_steps.specs.declared.step.ProbabilityRule.TheVariants.{ByPhoare}
 use Rattle.gb_typing.specs.Context.{Context, with_own}
@@ -44,13 +44,13 @@ use Rattle.gb_typing.proofs.Ambient.{one_typed as every_typed, one_meaning as ev
 use Rattle.gb_typing.proofs.Given.{refused_given, sound_given_in}
 use Rattle.gb_typing.proofs.Located.{IsTypedThere}
 use Rattle.gb_typing.proofs.Sound.{procedures_sound}
-use Rattle.gb_parts.specs.Compared.{compared}
-use Rattle.gb_parts.specs.Likely.{as_likely}
-use Rattle.gb_parts.proofs.Bound.{bound_value}
-use Rattle.gb_parts.proofs.Comparing.{compared_is}
-use Rattle.gb_parts.proofs.Likely.{as_likely_typed, likely_at}
-use Rattle.gb_parts.proofs.Weaker.{Follows, event_follows}
-use Rattle.gb_chances.specs.Chances.{Bounded, bounded_of}
+use Rattle.gb_prog.specs.Compared.{compared}
+use Rattle.gb_prog.specs.Likely.{as_likely}
+use Rattle.gb_prog.proofs.Bound.{bound_value}
+use Rattle.gb_prog.proofs.Comparing.{compared_is}
+use Rattle.gb_prog.proofs.Likely.{as_likely_typed, likely_at}
+use Rattle.gb_prog.proofs.Weaker.{Follows, event_follows}
+use Rattle.gb_steps.specs.Chances.{Bounded, bounded_of}
 use Rattle.gb_pr.specs.ByPhoare.{AreConditions, by_phoare_at, by_phoare_goals, by_phoare_of, by_phoare_row}
 use Rattle.gb_pr.specs.Rows.{IsTypedAt}
 use Rattle.gb_pr.proofs.BoundedForms.{IsBounded, is_bounded, sides_made, term_typed}

@@ -32,9 +32,9 @@ use Rattle.gb_typing.specs.Context.{Context, procedure, with_own}
 use Rattle.gb_typing.specs.Modules.{ProcedureType}
 use Rattle.gb_typing.specs.Typing.{AllTyped, IsForm, IsPlace, IsThere, IsTyped, after}
 use Rattle.gb_typing.proofs.Made.{IsNode, parts_typed}
-use Rattle.gb_parts.specs.Compared.{compared}
-use Rattle.gb_parts.proofs.Comparing.{compared_is}
-use Rattle.gb_chances.specs.Chances.{Chance, Compared, before_last, chance_at, chance_of, chances_by, chances_in, chances_of, compared_at, compared_of, last, speaks, unless}
+use Rattle.gb_prog.specs.Compared.{compared}
+use Rattle.gb_prog.proofs.Comparing.{compared_is}
+use Rattle.gb_steps.specs.Chances.{Chance, Compared, before_last, chance_at, chance_of, chances_by, chances_in, chances_of, compared_at, compared_of, last, speaks, unless}
 use Rattle.gb_pr.proofs.PlainTerms.{plain_term}
 
 -- The parts.

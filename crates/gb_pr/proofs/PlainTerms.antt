@@ -13,8 +13,8 @@ use Rattle.gb_terms.specs.declared.term.Head.TheFolds.{map-Head, fold-Instr, fol
 use Rattle.gb_meaning.specs.Commands.{terms_in}
 use Rattle.gb_laws.specs.Plain.{HeadIsPlain, IsPlain, AllPlain}
 use Rattle.gb_laws.proofs.Trees.{out_is, HeadLayer}
-use Rattle.gb_chances.specs.Chances.{at_head, at_term, speaks, head_speaks}
-use Rattle.gb_chances.proofs.Parts.{speaks_out}
+use Rattle.gb_steps.specs.Chances.{at_head, at_term, speaks, head_speaks}
+use Rattle.gb_steps.proofs.Parts.{speaks_out}
 use Rattle.sqlite_items.specs.formers.items.Items.{the_former}
 use mathlib.Core.Former.{Count, arity, this}
 

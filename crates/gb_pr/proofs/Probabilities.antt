@@ -12,7 +12,7 @@ use Rattle.gb_meaning.specs.Setting.{Setting}
 use Rattle.gb_meaning.specs.Setting.Meaning.{fraction}
 use Rattle.gb_meaning.specs.State.{State, at, memory_of}
 use Rattle.gb_meaning.specs.Terms.{val}
-use Rattle.gb_holds.specs.Declared.{declared}
+use Rattle.gb_meaning.specs.Declared.{declared}
 use Rattle.gb_goal.specs.declared.sequent.Sequent.{Sequent}
 use Rattle.gb_goal.specs.Goal.Code.{procedure}
 use Rattle.gb_goal.specs.Scope.{Declarations, procedure_of}
@@ -29,7 +29,7 @@ use Rattle.gb_typing.proofs.Located.{IsTypedThere, typed_there}
 use Rattle.gb_typing.proofs.Scripts.{same_some}
 use Rattle.gb_typing.proofs.Variables.{variable_finite}
 use Rattle.gb_prog.proofs.Calls.{called_outcomes}
-use Rattle.gb_chances.specs.Chances.{Chance, chance_of}
+use Rattle.gb_steps.specs.Chances.{Chance, chance_of}
 use Rattle.gb_pr.proofs.ChanceForms.{AreFor, IsTypedChance, chance_value}
 use Rattle.gb_pr.proofs.Starts.{IsStart, start_of, start_values}
 use Rattle.gb_pr.proofs.Starting.{AreGiven, given_values}

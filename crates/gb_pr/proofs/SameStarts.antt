@@ -11,8 +11,8 @@ use Rattle.gb_terms.specs.declared.term.Term.{Term, out-Term}
 use Rattle.gb_terms.specs.Make.{truth_literal}
 use Rattle.gb_meaning.proofs.SameTerms.{same_terms}
 use Rattle.gb_typing.proofs.Shapes.{node_out}
-use Rattle.gb_chances.specs.Chances.{Chance, before_last}
-use Rattle.gb_parts.specs.Same.{is_yes, is_same}
+use Rattle.gb_steps.specs.Chances.{Chance, before_last}
+use Rattle.gb_prog.specs.Same.{is_yes, is_same}
 use Rattle.gb_pr.specs.ByEvents.{ending, same_start}
 
 by_decision : {A : Type 0} (b : Bool) (d : Dec A) → (IsTrue b ↔ A) → b ≡ is_yes d

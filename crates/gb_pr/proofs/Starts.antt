@@ -34,7 +34,7 @@ use Rattle.gb_typing.specs.Rules.{outermost}
 use Rattle.gb_typing.specs.Typing.{IsFrame, IsIn, IsPlace, IsTyped, IsForm}
 use Rattle.gb_typing.proofs.Formed.{formed}
 use Rattle.gb_typing.proofs.Uses.{nothing_in, term_within, admits_besides_own, admits_besides_sides}
-use Rattle.gb_chances.specs.Chances.{Chance}
+use Rattle.gb_steps.specs.Chances.{Chance}
 use Rattle.gb_pr.specs.Started.{started, given_for}
 use Rattle.gb_pr.proofs.Led.{source, Replaces, Begins, begun_typed, begun_means}
 use Rattle.gb_pr.proofs.Starting.{AreGiven, starting, IsArgument, logical_found, other_found, global_found, globals_found, side_here, side_other, enters, are_put, found_argument, values}

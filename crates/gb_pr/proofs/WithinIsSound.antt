@@ -4,8 +4,8 @@ use Rattle.std.proofs.lemmas.Bool.{false≢true, le-leb}
 use Rattle.std.specs.List.{AllByRecursion}
 use Rattle.gb_core.specs.declared.refusal.Why.TheVariants.{Shape}
 use Rattle.gb_core.specs.declared.value.Value.{Value}
-use Rattle.gb_coupling.specs.WeightedList.{WeightedList, total, weight}
-use Rattle.gb_coupling.proofs.Weights.{weight-le_total}
+use Rattle.gb_dist.specs.WeightedList.{WeightedList, total, weight}
+use Rattle.gb_dist.proofs.Weights.{weight-le_total}
 use Rattle.gb_terms.specs.declared.op.Rel.{Rel}
 use Rattle.gb_terms.specs.declared.op.Rel.TheVariants.{AtMost, Equal, AtLeast}
 use Rattle.gb_terms.specs.declared.term.Term.{Term}
@@ -19,7 +19,7 @@ use Rattle.gb_meaning.specs.Setting.Meaning.{fraction}
 use Rattle.gb_meaning.specs.State.{State, at, memory_of}
 use Rattle.gb_meaning.specs.Terms.{val}
 use Rattle.gb_meaning.proofs.Totals.{routine_bounded}
-use Rattle.gb_holds.specs.Declared.{Declarations}
+use Rattle.gb_meaning.specs.Declared.{Declarations}
 use Rattle.gb_goal.specs.Answers.Answer.{given}
 use Rattle.gb_goal.specs.Goal.{Goal}
 use Rattle.gb_goal.specs.Goal.Goal.{hoare, phoare, equiv, ambient}
@@ -31,9 +31,9 @@ use Rattle.gb_typing.specs.Rules.{ImpliesIn, IsSoundRuleIn, no_arguments}
 use Rattle.gb_typing.specs.Typing.{IsForm, IsThere, IsTyped}
 use Rattle.gb_typing.proofs.Given.{refused_given, sound_given_in}
 use Rattle.gb_typing.proofs.Sound.{procedures_sound}
-use Rattle.gb_parts.specs.Compared.{literal}
-use Rattle.gb_parts.proofs.Comparing.{compared_is, literal_value}
-use Rattle.gb_chances.specs.Chances.{Bounded, bounded_of}
+use Rattle.gb_prog.specs.Compared.{literal}
+use Rattle.gb_prog.proofs.Comparing.{compared_is, literal_value}
+use Rattle.gb_steps.specs.Chances.{Bounded, bounded_of}
 use Rattle.gb_pr.specs.ByEvents.{is_kept, within_of, within_row}
 use Rattle.gb_pr.proofs.BoundedForms.{IsBounded, is_bounded, term_typed}
 use Rattle.gb_pr.proofs.ChanceForms.{IsTypedChance, chance_typed, chance_value}

@@ -14,12 +14,12 @@ use Rattle.gb_goal.specs.Goal.Goal.{equiv, ambient}
 use Rattle.gb_goal.specs.Rows.{Row, refusing}
 use Rattle.gb_goal.specs.Scope.{Declarations, procedure_of}
 use Rattle.gb_steps.specs.declared.step.Conditions.{Conditions}
-use Rattle.gb_chances.specs.Chances.{Compared, chances_of}
+use Rattle.gb_steps.specs.Chances.{Compared, chances_of}
 use Rattle.gb_typing.specs.Context.{Context, with_sides}
 use Rattle.gb_typing.specs.Context as context
 use Rattle.gb_typing.specs.Typing.{IsForm, before, after}
 use Rattle.gb_typing.specs.Forms.{every_pair, implies_form, located}
-use Rattle.gb_parts.specs.Likely.{as_likely}
+use Rattle.gb_prog.specs.Likely.{as_likely}
 use Rattle.gb_pr.specs.Started.{started}
 
 -- how likely one event is beside the other, each in the memory of its side

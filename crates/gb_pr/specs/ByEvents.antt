@@ -13,11 +13,11 @@ use Rattle.gb_goal.specs.Answers.Answer.{given}
 use Rattle.gb_goal.specs.Goal.{Goal}
 use Rattle.gb_goal.specs.Goal.Goal.{ambient}
 use Rattle.gb_goal.specs.Rows.{Row, refusing}
-use Rattle.gb_chances.specs.Chances.{Chance, Bounded, Compared, bounded_of, chances_of}
+use Rattle.gb_steps.specs.Chances.{Chance, Bounded, Compared, bounded_of, chances_of}
 use Rattle.gb_typing.specs.Forms.{every}
-use Rattle.gb_parts.specs.Compared.{literal}
-use Rattle.gb_parts.specs.Likely.{as_likely}
-use Rattle.gb_parts.specs.Same.{is_same}
+use Rattle.gb_prog.specs.Compared.{literal}
+use Rattle.gb_prog.specs.Likely.{as_likely}
+use Rattle.gb_prog.specs.Same.{is_same}
 
 abbrev pub same_rel : Rel → Rel → Bool
 same_rel AtMost AtMost = true

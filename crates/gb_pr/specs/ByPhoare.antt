@@ -13,12 +13,12 @@ use Rattle.gb_goal.specs.Goal.Goal.{phoare, ambient}
 use Rattle.gb_goal.specs.Rows.{Row, refusing}
 use Rattle.gb_goal.specs.Scope.{Declarations, procedure_of}
 use Rattle.gb_steps.specs.declared.step.Conditions.{Conditions}
-use Rattle.gb_chances.specs.Chances.{Bounded, bounded_of}
+use Rattle.gb_steps.specs.Chances.{Bounded, bounded_of}
 use Rattle.gb_typing.specs.Context.{Context, with_own}
 use Rattle.gb_typing.specs.Context as context
 use Rattle.gb_typing.specs.Typing.{IsForm, before, after}
 use Rattle.gb_typing.specs.Forms.{every}
-use Rattle.gb_parts.specs.Likely.{as_likely}
+use Rattle.gb_prog.specs.Likely.{as_likely}
 use Rattle.gb_pr.specs.Started.{started}
 
 -- The judgment that the procedure makes the postcondition as likely as the bound says; its precondition, of the arguments and the memory

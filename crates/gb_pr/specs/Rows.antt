@@ -10,7 +10,7 @@ use Rattle.gb_goal.specs.Goal.{Goal}
 use Rattle.gb_goal.specs.Goal.Goal.{ambient}
 use Rattle.gb_goal.specs.Rows.{Row, refusing}
 use Rattle.gb_goal.specs.Scope.{Declarations}
-use Rattle.gb_chances.specs.Chances.{bounded_of, chances_of}
+use Rattle.gb_steps.specs.Chances.{bounded_of, chances_of}
 use Rattle.gb_typing.specs.Context.{Context}
 use Rattle.gb_pr.specs.ByEvents.{by_events_row, within_row}
 use Rattle.gb_pr.specs.ByEquiv.{by_equiv_row}

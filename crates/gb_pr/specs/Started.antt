@@ -7,7 +7,7 @@ use Rattle.gb_terms.specs.declared.op.Side.{Side}
 use Rattle.gb_terms.specs.declared.term.Term.{Term}
 use Rattle.gb_walk.specs.declared.change.Change.TheVariants.{ToTerm, ToSide}
 use Rattle.gb_walk.specs.Change.{Changes}
-use Rattle.gb_chances.specs.Chances.{Chance}
+use Rattle.gb_steps.specs.Chances.{Chance}
 
 -- terms in the places of parameters that are read in this memory
 abbrev pub given_for : Side → List TypedName → List Term → Changes

@@ -10,7 +10,7 @@ use crate::by_phoare::by_phoare_rule;
 use gb_core::refusal::Refused;
 use gb_goal::scope::Scope;
 use gb_goal::sequent::{Sequent, Sequents};
-use gb_parts::subgoals::{no_shape, placed};
+use gb_prog::subgoals::{no_shape, placed};
 use gb_steps::step::{ProbabilityRule, Rule, Step};
 use std::alloc::Global;
 

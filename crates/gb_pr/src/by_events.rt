@@ -3,20 +3,20 @@
 ghost use Rattle.std.specs.Prelude.{◌≡◌, ◌&&◌, IfOk, map};
 ghost use Rattle.gb_goal.specs.Answers.{Answers};
 ghost use Rattle.gb_goal.specs.Rows.{answered, concluding, each_concluding};
-ghost use Rattle.gb_parts.specs.Same.{is_same};
-ghost use Rattle.gb_chances.specs.Chances.{bounded_of, chances_of};
-ghost use Rattle.gb_chances.specs.Views.{chance_seen, compared_seen};
+ghost use Rattle.gb_prog.specs.Same.{is_same};
+ghost use Rattle.gb_steps.specs.Chances.{bounded_of, chances_of};
+ghost use Rattle.gb_steps.specs.Views.{chance_seen, compared_seen};
 ghost use Rattle.gb_pr.specs.ByEvents.{by_events_goals, by_events_of, by_events_row, ending, is_kept, same_rel, same_start, within_of, within_row};
 
-use gb_chances::chances::{Chance, Compared, bounded_of, chances_of};
 use gb_core::Shared;
 use gb_core::refusal::Refused;
 use gb_core::ty::Ty;
 use gb_goal::goal::{Goal, goal_of};
 use gb_goal::sequent::{Sequent, Sequents};
-use gb_parts::compared::literal;
-use gb_parts::forms::{every, likely};
-use gb_parts::subgoals::{no_shape, one_goal};
+use gb_prog::compared::literal;
+use gb_prog::forms::{every, likely};
+use gb_prog::subgoals::{no_shape, one_goal};
+use gb_steps::chances::{Chance, Compared, bounded_of, chances_of};
 use gb_terms::make::{boolean, term};
 use gb_terms::op::{Rel, Side};
 use gb_terms::same::same;

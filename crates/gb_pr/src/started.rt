@@ -1,11 +1,11 @@
 // What is said before procedures, of the arguments and the memories from which they start.
 
 ghost use Rattle.std.specs.Prelude.{◌≡◌, ◌++◌, IfOk};
-ghost use Rattle.gb_chances.specs.Views.{chance_seen};
+ghost use Rattle.gb_steps.specs.Views.{chance_seen};
 ghost use Rattle.gb_pr.specs.Started.{given_for, started};
 
-use gb_chances::chances::Chance;
 use gb_core::var::Var;
+use gb_steps::chances::Chance;
 use gb_terms::decl::TypedName;
 use gb_terms::op::{Read, Side};
 use gb_terms::term::Term;

@@ -3,7 +3,7 @@ use Rattle.std.specs.Prelude.{ℕ, ◌≡◌, true, false, List, [], ◌∷◌, 
 use Rattle.std.specs.Fmt.{decimal}
 use Rattle.std.proofs.Common.{refl, sym, subst}
 use Rattle.gb_core.specs.declared.ty.Ty.{Ty}
-use Rattle.gb_grammar.specs.declared.table.Symbol.TheVariants.{Part}
+use Rattle.gb_script.specs.declared.table.Symbol.TheVariants.{Part}
 use Rattle.gb_goal.specs.Answers.{nowhere}
 use Rattle.gb_limits.specs.LeftOut.{is_word_of}
 use Rattle.gb_limits.specs.Lexeme.{spells}
@@ -11,10 +11,10 @@ use Rattle.gb_script.specs.declared.head.Head.TheVariants as head
 use Rattle.gb_script.specs.declared.tree.Node.{Node}
 use Rattle.gb_script.specs.declared.value.Value.TheVariants.{Tree}
 use Rattle.gb_script.specs.Tree.{node}
-use Rattle.gb_shapes.specs.declared.place.Known.{Known}
+use Rattle.gb_print_names.specs.declared.bound_names.Known.{Known}
 use Rattle.gb_print_names.specs.Text.{Text, Writing, word, number}
 use Rattle.gb_print_names.specs.Types as print
-use Rattle.gb_print_text.specs.Layout as print_layout
+use Rattle.gb_print.specs.Layout as print_layout
 use Rattle.gb_print.specs.Nodes as nodes
 use Rattle.gb_print.specs.Types as type_tree
 use Rattle.gb_print.specs.Heads as tree

@@ -1,12 +1,12 @@
 -- What is printed of procedures reads as their trees: as paths, and at their arguments.
 use Rattle.std.specs.Prelude.{ℕ, ◌≡◌, List, [], ◌∷◌, ◌++◌, codes}
 use Rattle.std.proofs.Common.{ap, ap₂, sym, ◌∙◌, subst, append_assoc}
-use Rattle.gb_grammar.specs.declared.table.Symbol.TheVariants.{Part}
+use Rattle.gb_script.specs.declared.table.Symbol.TheVariants.{Part}
 use Rattle.gb_terms.specs.declared.module.ProcRef.{ProcRef}
 use Rattle.gb_script.specs.declared.head.Head.TheVariants as head
 use Rattle.gb_script.specs.declared.tree.Node.{Node}
 use Rattle.gb_script.specs.declared.value.Value.TheVariants.{Tree}
-use Rattle.gb_shapes.specs.declared.place.Known.{Known}
+use Rattle.gb_print_names.specs.declared.bound_names.Known.{Known}
 use Rattle.gb_print_names.specs.Text.{Text}
 use Rattle.gb_print_names.specs.Names.{module_name}
 use Rattle.gb_print_names.specs.Modules as print

@@ -1,9 +1,9 @@
 -- What is known of the levels of a text in front of its parts and behind them: how many operands their chains have.
 use Rattle.std.specs.Prelude.{ℕ, ◌≡◌, ◌+◌, ◌≤◌, Bool, true, false, not, ◌&&◌, if◌then◌else◌, nat_eq, nat_le, max, List, [], ◌∷◌, ◌++◌, Option, Some, None}
 use Rattle.std.specs.List.{list_any}
-use Rattle.gb_grammar.specs.declared.table.Symbol.{Symbol}
-use Rattle.gb_grammar.specs.declared.table.Symbol.TheVariants.{Token, Part}
-use Rattle.gb_grammar.specs.Grammar.{Production}
+use Rattle.gb_script.specs.declared.table.Symbol.{Symbol}
+use Rattle.gb_script.specs.declared.table.Symbol.TheVariants.{Token, Part}
+use Rattle.gb_script.specs.Grammar.{Production}
 use Rattle.gb_limits.specs.declared.level.Bracket.{Bracket}
 use Rattle.gb_limits.specs.declared.level.Bracket.TheVariants.{Opens, Closes, Neither}
 use Rattle.gb_limits.specs.declared.level.Level.{Level}

@@ -5,9 +5,9 @@ use Rattle.gb_terms.specs.declared.module.Mexp.{Mexp, out-Mexp, roll-Mexp, roll-
 use Rattle.gb_terms.specs.declared.module.Mexp.TheOpen as layer
 use Rattle.gb_terms.specs.declared.module.Mexp.TheFolds.{fold-roll-Mexp}
 use Rattle.gb_script.specs.declared.head.Head.TheVariants as head
-use Rattle.gb_shapes.specs.declared.place.Known.{Known}
+use Rattle.gb_print_names.specs.declared.bound_names.Known.{Known}
 use Rattle.gb_print_names.specs.Text.{Text, ◌▸◌, each, word, separated}
-use Rattle.gb_shapes.specs.Names.{Name}
+use Rattle.gb_print_names.specs.BoundNames.{Name}
 use Rattle.gb_print_names.specs.Names.{module_name}
 use Rattle.gb_print_names.specs.Modules as print
 use Rattle.gb_print.specs.Nodes as nodes

@@ -2,8 +2,8 @@
 use Rattle.std.specs.Prelude.{ℕ, ◌≡◌, Bool, true, List, [], ◌∷◌, None}
 use Rattle.std.proofs.Common.{refl, sym, ◌∙◌, subst}
 use Rattle.gb_core.specs.declared.place.Place.{Place as TextPlace}
-use Rattle.gb_grammar.specs.Grammar.{Grammar}
-use Rattle.gb_grammar.specs.declared.table.Symbol.TheVariants.{Part}
+use Rattle.gb_script.specs.Grammar.{Grammar}
+use Rattle.gb_script.specs.declared.table.Symbol.TheVariants.{Part}
 use Rattle.gb_language.specs.declared.rows.TheConstants.{FORM}
 use Rattle.gb_language.specs.Language.{language, goal_language}
 use Rattle.gb_lex.specs.Lex.{fault_of}
@@ -21,8 +21,8 @@ use Rattle.gb_script.specs.Build.{IsTree}
 use Rattle.gb_script.proofs.Stacks.{append_nil}
 use Rattle.gb_terms.specs.declared.term.Term.{Term}
 use Rattle.gb_print_names.specs.Text.{Text, Writing}
-use Rattle.gb_shapes.specs.Names.{Place}
-use Rattle.gb_print_text.specs.Forms.{form_text}
+use Rattle.gb_print_names.specs.BoundNames.{Place}
+use Rattle.gb_print.specs.FormText.{form_text}
 use Rattle.gb_print.specs.Nodes.{placeless}
 use Rattle.gb_print.specs.Forms.{form_tree}
 use Rattle.gb_print.specs.Written.{IsWritten}

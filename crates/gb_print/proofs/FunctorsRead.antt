@@ -2,7 +2,7 @@
 use Rattle.std.specs.Prelude.{ℕ, ◌≡◌, true, false, List, [], ◌∷◌, ◌++◌}
 use Rattle.std.proofs.Common.{refl, ap}
 use Rattle.gb_goal.specs.Answers.{nowhere}
-use Rattle.gb_grammar.specs.declared.table.Symbol.TheVariants.{Token, Part}
+use Rattle.gb_script.specs.declared.table.Symbol.TheVariants.{Token, Part}
 use Rattle.gb_lex.specs.Byte.{is_word_byte}
 use Rattle.gb_script.specs.declared.head.Head.TheVariants as head
 use Rattle.gb_script.specs.declared.tree.Node.{Node}

@@ -4,10 +4,10 @@ use Rattle.std.specs.List.{All, AllZip, prefix_len}
 use Rattle.std.proofs.Common.{refl, ap, ap₂, sym, ◌∙◌, subst, arith, inl, inr}
 use Rattle.std.proofs.lemmas.List.Elements.{All-cons, All-append}
 use Rattle.gb_core.specs.declared.place.Place.{Place as TextPlace}
-use Rattle.gb_grammar.specs.declared.table.Symbol.{Symbol}
-use Rattle.gb_grammar.specs.declared.table.Symbol.TheVariants.{Token, Part}
-use Rattle.gb_grammar.specs.Grammar.{Grammar}
-use Rattle.gb_grammar.specs.Reading.{IsKind, Spells, IsTextOrFault}
+use Rattle.gb_script.specs.declared.table.Symbol.{Symbol}
+use Rattle.gb_script.specs.declared.table.Symbol.TheVariants.{Token, Part}
+use Rattle.gb_script.specs.Grammar.{Grammar}
+use Rattle.gb_script.specs.Parsing.{IsKind, Spells, IsTextOrFault}
 use Rattle.gb_language.specs.declared.rows.TheConstants.{ENTRY, HYPOTHESIS}
 use Rattle.gb_language.specs.Language.{goal_language, IsLineTree}
 use Rattle.gb_language.proofs.Language.{line_or_fault, line_spells}
@@ -36,8 +36,8 @@ use Rattle.gb_lex.specs.PlaceAfter.{place_after}
 use Rattle.gb_goal.specs.declared.sequent.Sequent.{Sequent}
 use Rattle.gb_script.proofs.Stacks.{append_nil}
 use Rattle.gb_print_names.specs.Text.{Writing}
-use Rattle.gb_shapes.specs.Names.{Place}
-use Rattle.gb_print_text.specs.Goals as print_goals
+use Rattle.gb_print_names.specs.BoundNames.{Place}
+use Rattle.gb_print.specs.GoalText as print_goals
 use Rattle.gb_print.specs.Nodes.{placeless}
 use Rattle.gb_print.specs.Goals.{Entry, binder, hypothesis, IsEntryTree, IsTreeOf, IsWrittenGoal}
 use Rattle.gb_print.proofs.Reading.{lexeme_kind, lexeme_kinds, Reads, done, token}

@@ -15,13 +15,13 @@ use Rattle.gb_script.specs.declared.head.Head.TheVariants as head
 use Rattle.gb_script.specs.declared.tree.Node.{Node}
 use Rattle.gb_script.specs.Tree.{node}
 use Rattle.gb_print_names.specs.Text.{Text, Writing, ◌▸◌, word}
-use Rattle.gb_shapes.specs.Names.{Place, bound_name}
-use Rattle.gb_shapes.specs.declared.shape.Shape.{Shape}
-use Rattle.gb_shapes.specs.declared.shape.Shape.TheVariants.{Atom, Postfix, Bounded, Application, Sum, Operation}
-use Rattle.gb_shapes.specs.Open.{operator_tells}
-use Rattle.gb_print_text.specs.Layout.{letter, before_operand}
-use Rattle.gb_shapes.specs.Shapes.{shape, runs_on}
-use Rattle.gb_print_text.specs.Forms as text
+use Rattle.gb_print_names.specs.BoundNames.{Place, bound_name}
+use Rattle.gb_print_names.specs.declared.shape.Shape.{Shape}
+use Rattle.gb_print_names.specs.declared.shape.Shape.TheVariants.{Atom, Postfix, Bounded, Application, Sum, Operation}
+use Rattle.gb_print_names.specs.Open.{operator_tells}
+use Rattle.gb_print.specs.Layout.{letter, before_operand}
+use Rattle.gb_print_names.specs.Shapes.{shape, runs_on}
+use Rattle.gb_print.specs.FormText as text
 use Rattle.gb_print.specs.Forms as tree
 use Rattle.gb_print.specs.Heads.{made}
 use Rattle.gb_print.specs.Nodes.{path}

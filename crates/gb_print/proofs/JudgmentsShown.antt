@@ -19,12 +19,12 @@ use Rattle.gb_script.specs.declared.tree.Node.{Node}
 use Rattle.gb_script.specs.Tree.{node}
 use Rattle.gb_print_names.specs.Text.{Text, Writing, ◌▸◌, word}
 use Rattle.gb_print_names.specs.Names as names
-use Rattle.gb_shapes.specs.Names.{Name, Place}
+use Rattle.gb_print_names.specs.BoundNames.{Name, Place}
 use Rattle.gb_print_names.specs.Names.{module_name, shown_name}
 use Rattle.gb_print_names.specs.Modules as print
-use Rattle.gb_print_text.specs.Layout as print_layout
-use Rattle.gb_print_text.specs.Forms as text
-use Rattle.gb_print_text.proofs.FormSteps.{subject_Proc}
+use Rattle.gb_print.specs.Layout as print_layout
+use Rattle.gb_print.specs.FormText as text
+use Rattle.gb_print.proofs.FormSteps.{subject_Proc}
 use Rattle.gb_print.specs.Nodes as nodes
 use Rattle.gb_print.specs.Types as type_tree
 use Rattle.gb_print.specs.Heads as heads

@@ -13,7 +13,7 @@ use Rattle.gb_lex.specs.Byte.{is_word_start, is_word_byte}
 use Rattle.gb_limits.specs.Kinds.{kind_of}
 use Rattle.gb_limits.specs.LeftOut.{is_word_of}
 use Rattle.gb_limits.specs.Lexeme.{spells}
-use Rattle.gb_grammar.specs.declared.table.Symbol.TheVariants.{Part}
+use Rattle.gb_script.specs.declared.table.Symbol.TheVariants.{Part}
 use Rattle.gb_goal.specs.Answers.{nowhere}
 use Rattle.gb_script.specs.declared.head.Head.TheVariants as head
 use Rattle.gb_script.specs.declared.terminal.Terminal.TheVariants as terminal
@@ -26,12 +26,12 @@ use Rattle.gb_terms.specs.declared.op.Read.{Read}
 use Rattle.gb_terms.specs.declared.op.Read.TheVariants.{Logical, Program}
 use Rattle.gb_terms.specs.declared.op.Side.{Side}
 use Rattle.gb_terms.specs.declared.op.Side.TheVariants as side
-use Rattle.gb_shapes.specs.declared.place.Enumeration.{Enumeration}
-use Rattle.gb_shapes.specs.declared.place.Known.{Known}
-use Rattle.gb_shapes.specs.Names.{Name, Place}
+use Rattle.gb_print_names.specs.declared.bound_names.Enumeration.{Enumeration}
+use Rattle.gb_print_names.specs.declared.bound_names.Known.{Known}
+use Rattle.gb_print_names.specs.BoundNames.{Name, Place}
 use Rattle.gb_print_names.specs.Text.{Text, Writing, ◌▸◌, word, number}
 use Rattle.gb_print_names.specs.Names as print
-use Rattle.gb_print_text.specs.Layout as print_layout
+use Rattle.gb_print.specs.Layout as print_layout
 use Rattle.gb_print.specs.Nodes as nodes
 use Rattle.gb_print.specs.Types as type_tree
 use Rattle.gb_print.specs.Heads as tree

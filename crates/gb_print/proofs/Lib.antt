@@ -1,3 +1,5 @@
+pub mod Values
+pub mod FormSteps
 pub mod Steps
 pub mod Reading
 pub mod Bare

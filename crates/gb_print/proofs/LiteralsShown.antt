@@ -10,18 +10,18 @@ use Rattle.gb_core.specs.declared.value.Value.{Value, out-Value, roll-Value, rol
 use Rattle.gb_core.specs.declared.value.Value.TheOpen as value_layer
 use Rattle.gb_core.specs.declared.value.Value.TheFolds.{fold-roll-Value}
 use Rattle.gb_terms.specs.declared.term.Pair.{Pair}
-use Rattle.gb_grammar.specs.declared.table.Symbol.TheVariants.{Part}
+use Rattle.gb_script.specs.declared.table.Symbol.TheVariants.{Part}
 use Rattle.gb_limits.specs.LeftOut.{is_word_of}
 use Rattle.gb_limits.specs.Lexeme.{spells}
 use Rattle.gb_script.specs.declared.head.Head.TheVariants as head
 use Rattle.gb_script.specs.declared.tree.Node.{Node}
 use Rattle.gb_script.specs.declared.value.Value.TheVariants.{Tree, Trees}
 use Rattle.gb_script.proofs.Stacks.{append_nil}
-use Rattle.gb_shapes.specs.declared.place.Enumeration.{Enumeration}
-use Rattle.gb_shapes.specs.Names.{Name}
+use Rattle.gb_print_names.specs.declared.bound_names.Enumeration.{Enumeration}
+use Rattle.gb_print_names.specs.BoundNames.{Name}
 use Rattle.gb_print_names.specs.Text.{Text, Writing, ◌▸◌, each, word, number, separated}
 use Rattle.gb_print_names.specs.Names as print
-use Rattle.gb_print_text.specs.Layout as print_layout
+use Rattle.gb_print.specs.Layout as print_layout
 use Rattle.gb_print.specs.Nodes as nodes
 use Rattle.gb_print.specs.Heads as tree
 use Rattle.gb_print.specs.Written.{in_range, is_name_text, is_name_there, IsWrittenValue, AreWrittenValues, numeral, parts, no_value, more_value, IsWrittenLiteral, is_word_here, has_word, is_weight_here, are_weights_here}

@@ -2,7 +2,7 @@
 use Rattle.std.specs.Prelude.{ℕ, ◌≡◌, true, false, List, [], ◌∷◌, ◌++◌, map, codes}
 use Rattle.std.proofs.Common.{refl, ap}
 use Rattle.gb_goal.specs.Answers.{nowhere}
-use Rattle.gb_grammar.specs.declared.table.Symbol.TheVariants.{Part}
+use Rattle.gb_script.specs.declared.table.Symbol.TheVariants.{Part}
 use Rattle.gb_lex.specs.Byte.{is_word_byte}
 use Rattle.gb_script.specs.declared.head.Head.{Head}
 use Rattle.gb_script.specs.declared.head.Head.TheVariants as head

@@ -3,7 +3,7 @@ use Rattle.std.specs.Prelude.{ℕ, ◌≡◌, true, false, ◌&&◌, List, [], �
 use Rattle.std.specs.List.{list_all}
 use Rattle.std.specs.Fmt.{decimal}
 use Rattle.std.proofs.Common.{refl, ap, ap₂, sym, ◌∙◌, subst}
-use Rattle.gb_grammar.specs.declared.table.Symbol.TheVariants.{Part}
+use Rattle.gb_script.specs.declared.table.Symbol.TheVariants.{Part}
 use Rattle.gb_goal.specs.Answers.{nowhere}
 use Rattle.gb_lex.specs.Byte.{is_word_byte}
 use Rattle.gb_terms.specs.declared.module.Mexp.{Mexp, out-Mexp}
@@ -14,9 +14,9 @@ use Rattle.gb_terms.specs.declared.module.Bound.{Bound}
 use Rattle.gb_script.specs.declared.head.Head.TheVariants as head
 use Rattle.gb_script.specs.declared.tree.Node.{Node}
 use Rattle.gb_script.specs.declared.value.Value.TheVariants.{Tree}
-use Rattle.gb_shapes.specs.declared.place.Known.{Known}
+use Rattle.gb_print_names.specs.declared.bound_names.Known.{Known}
 use Rattle.gb_print_names.specs.Text.{Text, Writing, ◌▸◌, each, word, separated}
-use Rattle.gb_shapes.specs.Names.{Name}
+use Rattle.gb_print_names.specs.BoundNames.{Name}
 use Rattle.gb_print_names.specs.Names.{module_name}
 use Rattle.gb_print_names.specs.Modules as print
 use Rattle.gb_print.specs.Nodes as nodes

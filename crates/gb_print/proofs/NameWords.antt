@@ -11,8 +11,8 @@ use Rattle.std.proofs.lemmas.Slice.Eq.{bytes_eq-Decides}
 use Rattle.std.proofs.lemmas.Bool.Decides.{nat_tests}
 use Rattle.std.proofs.lemmas.Fmt.{decimal_by_steps_wide}
 use Rattle.gb_goal.specs.Answers.{nowhere}
-use Rattle.gb_grammar.specs.declared.table.Symbol.TheVariants.{Token, Part}
-use Rattle.gb_grammar.specs.Grammar.{Production, IsProduction}
+use Rattle.gb_script.specs.declared.table.Symbol.TheVariants.{Token, Part}
+use Rattle.gb_script.specs.Grammar.{Production, IsProduction}
 use Rattle.gb_lex.specs.Byte.{is_word_start, is_word_byte}
 use Rattle.gb_lex.specs.declared.token.Kind.TheVariants.{Word, Number}
 use Rattle.gb_limits.specs.declared.spelling.Spelling.{Spelling}

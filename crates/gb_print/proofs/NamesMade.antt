@@ -20,8 +20,8 @@ use Rattle.gb_script.specs.declared.terminal.Terminal.TheVariants as terminal
 use Rattle.gb_terms.specs.declared.term.Head.{Head}
 use Rattle.gb_terms.specs.declared.term.Head.TheVariants as term
 use Rattle.gb_print_names.specs.Text.{Text}
-use Rattle.gb_shapes.specs.Names.{Name, Place, is_taken, primed, numbered, bound_name}
-use Rattle.gb_print_text.specs.Layout.{letter}
+use Rattle.gb_print_names.specs.BoundNames.{Name, Place, is_taken, primed, numbered, bound_name}
+use Rattle.gb_print.specs.Layout.{letter}
 use Rattle.gb_print.specs.Written.{is_name_text}
 use Rattle.gb_print.proofs.Tokens.{both}
 use Rattle.gb_print.proofs.NameWords.{false_by}

@@ -4,8 +4,8 @@ use Rattle.std.specs.List.{list_all}
 use Rattle.std.proofs.Common.{refl, ap, sym, ◌∙◌, subst, append_assoc, arith}
 use Rattle.gb_core.specs.declared.place.Place.{Place}
 use Rattle.gb_goal.specs.Answers.{nowhere}
-use Rattle.gb_grammar.specs.declared.table.Symbol.TheVariants.{Token, Part}
-use Rattle.gb_grammar.specs.Grammar.{Production, IsProduction}
+use Rattle.gb_script.specs.declared.table.Symbol.TheVariants.{Token, Part}
+use Rattle.gb_script.specs.Grammar.{Production, IsProduction}
 use Rattle.gb_script.specs.declared.action.Rule.{Rule}
 use Rattle.gb_script.specs.declared.head.Head.{Head}
 use Rattle.gb_script.specs.declared.head.Head.TheVariants as head

@@ -6,12 +6,12 @@ use Rattle.gb_terms.specs.declared.term.Head.{Head}
 use Rattle.gb_terms.specs.declared.term.Head.TheVariants as term
 use Rattle.gb_script.specs.declared.tree.Node.{Node}
 use Rattle.gb_print_names.specs.Text.{Writing}
-use Rattle.gb_shapes.specs.Names.{Place}
+use Rattle.gb_print_names.specs.BoundNames.{Place}
 use Rattle.gb_print_names.specs.Types as print
-use Rattle.gb_shapes.specs.declared.shape.Shape.TheVariants.{Application, Sum}
-use Rattle.gb_shapes.specs.Open.{type_of, is_open, is_int, needs_type}
-use Rattle.gb_shapes.specs.Shapes.{shape, stands_alone, runs_on}
-use Rattle.gb_print_text.specs.Forms as text
+use Rattle.gb_print_names.specs.declared.shape.Shape.TheVariants.{Application, Sum}
+use Rattle.gb_print_names.specs.Open.{type_of, is_open, is_int, needs_type}
+use Rattle.gb_print_names.specs.Shapes.{shape, stands_alone, runs_on}
+use Rattle.gb_print.specs.FormText as text
 use Rattle.gb_print.specs.Types as type_tree
 use Rattle.gb_print.specs.Forms as tree
 use Rattle.gb_print.specs.Written.{is_phoare, is_front}

@@ -7,8 +7,8 @@ use Rattle.gb_lex.specs.Byte.{is_word_byte}
 use Rattle.gb_limits.specs.Kinds.{kind_of}
 use Rattle.gb_limits.specs.LeftOut.{is_word_of}
 use Rattle.gb_limits.specs.Lexeme.{spells}
-use Rattle.gb_grammar.specs.declared.table.Symbol.TheVariants.{Part}
-use Rattle.gb_grammar.specs.Grammar.{has}
+use Rattle.gb_script.specs.declared.table.Symbol.TheVariants.{Part}
+use Rattle.gb_script.specs.Grammar.{has}
 use Rattle.gb_goal.specs.Answers.{nowhere}
 use Rattle.gb_script.specs.declared.head.Head.TheVariants as head
 use Rattle.gb_script.specs.declared.terminal.Terminal.TheVariants as terminal

@@ -13,14 +13,14 @@ use Rattle.gb_script.specs.declared.head.Head.{Head}
 use Rattle.gb_script.specs.declared.head.Head.TheVariants as head
 use Rattle.gb_script.specs.declared.tree.Node.{Node}
 use Rattle.gb_script.specs.declared.value.Value.TheVariants.{Tree}
-use Rattle.gb_grammar.specs.declared.table.Symbol.TheVariants.{Part}
-use Rattle.gb_shapes.specs.declared.place.Known.{Known}
+use Rattle.gb_script.specs.declared.table.Symbol.TheVariants.{Part}
+use Rattle.gb_print_names.specs.declared.bound_names.Known.{Known}
 use Rattle.gb_print_names.specs.Text.{Text, Writing, ◌▸◌, each, word}
 use Rattle.gb_print_names.specs.Names as names
-use Rattle.gb_shapes.specs.Names.{Place}
+use Rattle.gb_print_names.specs.BoundNames.{Place}
 use Rattle.gb_print_names.specs.Names.{module_name}
-use Rattle.gb_print_text.specs.Forms as text
-use Rattle.gb_print_text.proofs.FormSteps.{subject_Body, instr_Assign, instr_Sample, instr_Call, instr_If, instr_While, cmd_is}
+use Rattle.gb_print.specs.FormText as text
+use Rattle.gb_print.proofs.FormSteps.{subject_Body, instr_Assign, instr_Sample, instr_Call, instr_If, instr_While, cmd_is}
 use Rattle.gb_print.specs.Nodes as nodes
 use Rattle.gb_print.specs.Types as type_tree
 use Rattle.gb_print.specs.Programs as programs

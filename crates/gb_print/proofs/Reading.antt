@@ -1,8 +1,8 @@
 -- Lexemes that spell symbols, and the values of these, whatever the places of the lexemes.
 use Rattle.std.specs.Prelude.{ℕ, ◌≡◌, ◌+◌, ◌≤◌, Bool, true, false, List, [], ◌∷◌, ◌++◌, length, map, take, drop, nat_le}
-use Rattle.gb_grammar.specs.declared.table.Symbol.{Symbol}
-use Rattle.gb_grammar.specs.declared.table.Symbol.TheVariants.{Token, Part}
-use Rattle.gb_grammar.specs.Grammar.{Grammar, Production, IsProduction, Allowed}
+use Rattle.gb_script.specs.declared.table.Symbol.{Symbol}
+use Rattle.gb_script.specs.declared.table.Symbol.TheVariants.{Token, Part}
+use Rattle.gb_script.specs.Grammar.{Grammar, Production, IsProduction, Allowed}
 use Rattle.gb_goal.specs.Answers.{nowhere}
 use Rattle.gb_limits.specs.Kinds.{kind_of}
 use Rattle.gb_script.specs.declared.action.Action.{Action}

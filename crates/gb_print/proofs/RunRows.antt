@@ -2,8 +2,8 @@
 use Rattle.std.specs.Prelude.{ℕ, ◌≡◌, ◌+◌, ◌≤◌, Bool, true, false, not, ◌&&◌, if◌then◌else◌, nat_eq, nat_le, List, [], ◌∷◌, ◌++◌, Some, None}
 use Rattle.std.proofs.Common.{refl, ap, sym, ◌∙◌, subst, arith}
 use Rattle.std.proofs.lemmas.Bool.{eqb-true}
-use Rattle.gb_grammar.specs.declared.table.Symbol.TheVariants.{Token, Part}
-use Rattle.gb_grammar.specs.Grammar.{Production}
+use Rattle.gb_script.specs.declared.table.Symbol.TheVariants.{Token, Part}
+use Rattle.gb_script.specs.Grammar.{Production}
 use Rattle.gb_limits.specs.declared.level.Bracket.TheVariants.{Closes, Neither}
 use Rattle.gb_limits.specs.declared.level.Level.{Level}
 use Rattle.gb_limits.specs.declared.level.Opening.{Opening}

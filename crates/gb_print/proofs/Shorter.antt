@@ -1,9 +1,9 @@
 -- What reads up to tokens that follow reads without them.
 use Rattle.std.specs.Prelude.{ℕ, ◌≡◌, ◌<◌, ◌≤◌, Bool, true, false, take, drop, List, [], ◌∷◌, ◌++◌, length}
 use Rattle.std.proofs.Common.{refl, ap, ap₂, sym, ◌∙◌, subst, arith, append_assoc, length-append}
-use Rattle.gb_grammar.specs.declared.table.Symbol.{Symbol}
-use Rattle.gb_grammar.specs.declared.table.Symbol.TheVariants.{Token}
-use Rattle.gb_grammar.specs.Grammar.{Grammar, Production, Allowed}
+use Rattle.gb_script.specs.declared.table.Symbol.{Symbol}
+use Rattle.gb_script.specs.declared.table.Symbol.TheVariants.{Token}
+use Rattle.gb_script.specs.Grammar.{Grammar, Production, Allowed}
 use Rattle.gb_script.specs.declared.action.Rule.{Rule}
 use Rattle.gb_script.specs.declared.text.Lexeme.{Lexeme}
 use Rattle.gb_script.specs.declared.value.Value.{Value}

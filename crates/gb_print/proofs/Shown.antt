@@ -8,9 +8,9 @@ use Rattle.gb_script.specs.declared.head.Head.TheVariants as head
 use Rattle.gb_script.specs.declared.tree.Node.{Node}
 use Rattle.gb_script.specs.Tree.{node}
 use Rattle.gb_print_names.specs.Text.{Text, Writing, ◌▸◌, word, number, bar}
-use Rattle.gb_shapes.specs.Names.{Place}
+use Rattle.gb_print_names.specs.BoundNames.{Place}
 use Rattle.gb_print_names.specs.Types as print
-use Rattle.gb_print_text.specs.Forms as text
+use Rattle.gb_print.specs.FormText as text
 use Rattle.gb_print.specs.Types as type_tree
 use Rattle.gb_print.specs.Forms as tree
 use Rattle.gb_print.proofs.Levels.{Before}

@@ -3,8 +3,8 @@ use Rattle.std.specs.Prelude.{ℕ, ◌≡◌, Bool, true, false, nat_le, List, [
 use Rattle.std.specs.List.{list_all}
 use Rattle.std.proofs.Common.{refl, ap, sym, ◌∙◌, subst, append_assoc}
 use Rattle.gb_goal.specs.Answers.{nowhere}
-use Rattle.gb_grammar.specs.declared.table.Symbol.TheVariants.{Part}
-use Rattle.gb_grammar.specs.Grammar.{has}
+use Rattle.gb_script.specs.declared.table.Symbol.TheVariants.{Part}
+use Rattle.gb_script.specs.Grammar.{has}
 use Rattle.gb_lex.specs.Byte.{is_word_byte}
 use Rattle.gb_lex.specs.declared.token.Kind.TheVariants.{Word}
 use Rattle.gb_limits.specs.Kinds.{kind_of}

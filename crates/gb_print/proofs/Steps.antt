@@ -12,10 +12,10 @@ use Rattle.gb_terms.specs.declared.term.Head.TheOpen as layer
 use Rattle.gb_terms.specs.declared.term.Head.TheVariants.{Assign, Sample, Call, If, While, Proc, Body}
 use Rattle.gb_terms.specs.declared.term.Head.TheViews.{out-Term, roll-out-Term, out-Cmd, roll-out-Cmd}
 use Rattle.gb_terms.specs.declared.term.Head.TheFolds.{para-Head, para-roll-Term, para-roll-Head, para-roll-Subject, para-roll-Instr, para-roll-Cmd}
-use Rattle.gb_shapes.specs.Names.{Place, bound_name}
+use Rattle.gb_print_names.specs.BoundNames.{Place, bound_name}
 use Rattle.gb_print_names.specs.Occurring.{inside}
-use Rattle.gb_print_text.specs.Layout.{letter}
-use Rattle.gb_shapes.specs.Open.{right_first}
+use Rattle.gb_print.specs.Layout.{letter}
+use Rattle.gb_print_names.specs.Open.{right_first}
 use Rattle.gb_print.specs.Heads.{made}
 use Rattle.gb_print.specs.Nodes.{tree, list}
 use Rattle.gb_print.specs.Types.{procedure_tree, call_tree}

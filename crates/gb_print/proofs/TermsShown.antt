@@ -14,15 +14,15 @@ use Rattle.gb_terms.specs.declared.term.Head.TheVariants as term
 use Rattle.gb_script.specs.declared.tree.Node.{Node}
 use Rattle.gb_script.specs.declared.head.Head.TheVariants as head
 use Rattle.gb_print_names.specs.Text.{Text, Writing, word, number}
-use Rattle.gb_shapes.specs.Names.{Place, bound_name}
+use Rattle.gb_print_names.specs.BoundNames.{Place, bound_name}
 use Rattle.gb_print_names.specs.Names.{shown_name}
 use Rattle.gb_print_names.specs.Types as print
 use Rattle.gb_print_names.specs.Occurring.{inside}
-use Rattle.gb_shapes.specs.Open.{right_first, type_read}
-use Rattle.gb_print_text.specs.Layout as print_layout
-use Rattle.gb_print_text.specs.Layout.{letter, outcome, type_needed}
-use Rattle.gb_print_text.specs.Forms as text
-use Rattle.gb_print_text.proofs.FormSteps.{term_is}
+use Rattle.gb_print_names.specs.Open.{right_first, type_read}
+use Rattle.gb_print.specs.Layout as print_layout
+use Rattle.gb_print.specs.Layout.{letter, outcome, type_needed}
+use Rattle.gb_print.specs.FormText as text
+use Rattle.gb_print.proofs.FormSteps.{term_is}
 use Rattle.gb_print.specs.Nodes as nodes
 use Rattle.gb_print.specs.Heads as heads
 use Rattle.gb_print.specs.Forms as tree

@@ -5,8 +5,8 @@ use Rattle.std.specs.Fmt.{decimal}
 use Rattle.std.proofs.Common.{refl, ap, sym, ◌∙◌, subst, append_assoc, arith}
 use Rattle.std.proofs.lemmas.Bool.Decides.{nat_tests}
 use Rattle.gb_goal.specs.Answers.{nowhere}
-use Rattle.gb_grammar.specs.declared.table.Symbol.TheVariants.{Part}
-use Rattle.gb_grammar.specs.Grammar.{has}
+use Rattle.gb_script.specs.declared.table.Symbol.TheVariants.{Part}
+use Rattle.gb_script.specs.Grammar.{has}
 use Rattle.gb_lex.specs.Byte.{is_word_byte}
 use Rattle.gb_limits.specs.Kinds.{kind_of}
 use Rattle.gb_limits.specs.LeftOut.{is_word_of}

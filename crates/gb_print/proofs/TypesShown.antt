@@ -9,7 +9,7 @@ use Rattle.gb_script.specs.declared.head.Head.TheVariants as head
 use Rattle.gb_script.specs.declared.tree.Node.{Node}
 use Rattle.gb_goal.specs.Answers.{nowhere}
 use Rattle.gb_script.specs.Tree.{node}
-use Rattle.gb_shapes.specs.declared.place.Known.{Known}
+use Rattle.gb_print_names.specs.declared.bound_names.Known.{Known}
 use Rattle.gb_print_names.specs.Text.{Text, Writing, ◌▸◌, each, word}
 use Rattle.gb_print_names.specs.Names.{module_name}
 use Rattle.gb_print_names.specs.Types as print

@@ -1,10 +1,10 @@
 -- The steps of what reads are walked over with short chains.
 use Rattle.std.specs.Prelude.{ℕ, zero, suc, ◌≡◌, ◌+◌, ◌≤◌, Bool, true, false, if◌then◌else◌, nat_le, List, [], ◌∷◌, length, drop, Some, None, slice_get}
 use Rattle.std.proofs.Common.{refl, ap, sym, ◌∙◌, subst, arith}
-use Rattle.gb_grammar.specs.declared.table.Step.{Step}
-use Rattle.gb_grammar.specs.declared.table.Symbol.{Symbol}
-use Rattle.gb_grammar.specs.declared.table.Symbol.TheVariants.{Part}
-use Rattle.gb_grammar.specs.Grammar.{Grammar, step}
+use Rattle.gb_script.specs.declared.table.Step.{Step}
+use Rattle.gb_script.specs.declared.table.Symbol.{Symbol}
+use Rattle.gb_script.specs.declared.table.Symbol.TheVariants.{Part}
+use Rattle.gb_script.specs.Grammar.{Grammar, step}
 use Rattle.gb_limits.specs.declared.level.Bracket.{Bracket}
 use Rattle.gb_limits.specs.declared.level.Bracket.TheVariants.{Opens, Closes, Neither}
 use Rattle.gb_limits.specs.declared.level.Level.{Level}

@@ -2,7 +2,7 @@
 use Rattle.std.specs.Prelude.{ℕ, ◌≡◌, true, false, List, [], ◌∷◌, ◌++◌, map}
 use Rattle.std.specs.List.{list_all}
 use Rattle.std.proofs.Common.{ap, sym, ◌∙◌, subst, append_assoc}
-use Rattle.gb_grammar.specs.declared.table.Symbol.TheVariants.{Token, Part}
+use Rattle.gb_script.specs.declared.table.Symbol.TheVariants.{Token, Part}
 use Rattle.gb_lex.specs.Byte.{is_word_byte}
 use Rattle.gb_script.specs.declared.head.Head.{Head}
 use Rattle.gb_script.specs.declared.tree.Node.{Node}

@@ -12,11 +12,11 @@ use Rattle.gb_terms.specs.declared.term.Cmd.{Cmd}
 use Rattle.gb_walk.specs.Layers.{is_binder}
 use Rattle.gb_script.specs.declared.head.Head.TheVariants as head
 use Rattle.gb_script.specs.declared.tree.Node.{Node}
-use Rattle.gb_shapes.specs.Names.{Place, under, bound_name}
+use Rattle.gb_print_names.specs.BoundNames.{Place, under, bound_name}
 use Rattle.gb_print_names.specs.Occurring.{inside}
-use Rattle.gb_shapes.specs.Open.{type_of, needs_type, right_first, tells}
-use Rattle.gb_print_text.specs.Layout.{letter, stands}
-use Rattle.gb_shapes.specs.Shapes.{shape, stands_alone, encloses, runs_on}
+use Rattle.gb_print_names.specs.Open.{type_of, needs_type, right_first, tells}
+use Rattle.gb_print.specs.Layout.{letter, stands}
+use Rattle.gb_print_names.specs.Shapes.{shape, stands_alone, encloses, runs_on}
 use Rattle.gb_print.specs.Nodes.{tree, list}
 use Rattle.gb_print.specs.Types.{procedure_tree, call_tree, type_tree}
 use Rattle.gb_print.specs.Programs.{written, loop}

@@ -13,7 +13,7 @@ use Rattle.gb_read_script.specs.declared.goal_tree.SequentTree.{SequentTree}
 use Rattle.gb_script.specs.declared.head.Head.TheVariants as head
 use Rattle.gb_script.specs.declared.text.Text.{Text}
 use Rattle.gb_script.specs.declared.tree.Node.{Node}
-use Rattle.gb_shapes.specs.Names.{Name, Place}
+use Rattle.gb_print_names.specs.BoundNames.{Name, Place}
 use Rattle.gb_print.specs.Nodes.{placeless, tree, list, word}
 use Rattle.gb_print.specs.Types.{type_tree, abstract_module}
 use Rattle.gb_print.specs.Forms.{form_tree}

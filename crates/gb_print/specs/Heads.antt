@@ -19,13 +19,13 @@ use Rattle.gb_terms.specs.declared.term.Head.{Head}
 use Rattle.gb_terms.specs.declared.term.Head.TheVariants as term
 use Rattle.gb_script.specs.declared.head.Head.TheVariants as head
 use Rattle.gb_script.specs.declared.tree.Node.{Node}
-use Rattle.gb_shapes.specs.declared.place.Enumeration.{Enumeration}
-use Rattle.gb_shapes.specs.declared.place.Known.{Known}
+use Rattle.gb_print_names.specs.declared.bound_names.Enumeration.{Enumeration}
+use Rattle.gb_print_names.specs.declared.bound_names.Known.{Known}
 use Rattle.gb_print_names.specs.Text.{Text}
-use Rattle.gb_shapes.specs.Names.{Name, Place}
+use Rattle.gb_print_names.specs.BoundNames.{Name, Place}
 use Rattle.gb_print_names.specs.Names.{shown_name, typed_name, constants}
-use Rattle.gb_shapes.specs.Open.{type_read}
-use Rattle.gb_print_text.specs.Layout.{outcome, type_needed}
+use Rattle.gb_print_names.specs.Open.{type_read}
+use Rattle.gb_print.specs.Layout.{outcome, type_needed}
 use Rattle.gb_print.specs.Nodes.{tree, spelled, leaf, list, number, word, of_words, path}
 use Rattle.gb_print.specs.Types.{module_tree, call_tree, abstract_module, type_tree, type_operand, variable_words}
 

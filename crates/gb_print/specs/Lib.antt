@@ -1,3 +1,6 @@
+pub mod Layout
+pub mod FormText
+pub mod GoalText
 pub mod Nodes
 pub mod Types
 pub mod Programs

@@ -1,7 +1,7 @@
 -- What printed text is read as.
 use Rattle.std.specs.Prelude.{◌≡◌, ℕ, List, None, length}
 use Rattle.gb_core.specs.declared.place.Place.{Place as TextPlace}
-use Rattle.gb_grammar.specs.declared.table.Step.{Step}
+use Rattle.gb_script.specs.declared.table.Step.{Step}
 use Rattle.gb_language.specs.declared.rows.TheConstants.{FORM}
 use Rattle.gb_lex.specs.Lex.{tokens_of, fault_of}
 use Rattle.gb_limits.specs.Lexeme.{text_at}

@@ -11,8 +11,8 @@ use Rattle.gb_terms.specs.declared.module.Mexp.TheOpen as mexp_layer
 use Rattle.gb_terms.specs.declared.module.ProcRef.{ProcRef}
 use Rattle.gb_script.specs.declared.head.Head.TheVariants as head
 use Rattle.gb_script.specs.declared.tree.Node.{Node}
-use Rattle.gb_shapes.specs.declared.place.Known.{Known}
-use Rattle.gb_shapes.specs.Names.{Name}
+use Rattle.gb_print_names.specs.declared.bound_names.Known.{Known}
+use Rattle.gb_print_names.specs.BoundNames.{Name}
 use Rattle.gb_print_names.specs.Names.{module_name}
 use Rattle.gb_print_names.specs.Types.{is_product}
 use Rattle.gb_print.specs.Nodes.{tree, leaf, list, number, word, word_nodes, path}

@@ -35,13 +35,13 @@ use Rattle.gb_terms.specs.declared.term.Cmd.{Cmd}
 use Rattle.gb_terms.specs.declared.term.Subject.{Subject}
 use Rattle.gb_terms.specs.declared.op.Rel.{Rel}
 use Rattle.gb_walk.specs.Layers.{is_binder}
-use Rattle.gb_shapes.specs.declared.place.Enumeration.{Enumeration}
-use Rattle.gb_shapes.specs.declared.place.Known.{Known}
-use Rattle.gb_shapes.specs.Names.{Name, Place, under}
+use Rattle.gb_print_names.specs.declared.bound_names.Enumeration.{Enumeration}
+use Rattle.gb_print_names.specs.declared.bound_names.Known.{Known}
+use Rattle.gb_print_names.specs.BoundNames.{Name, Place, under}
 use Rattle.gb_print_names.specs.Names.{module_name, shown_name, typed_name, constants}
 use Rattle.gb_print_names.specs.Occurring.{inside}
-use Rattle.gb_shapes.specs.Open.{type_of, is_open, is_int, type_read}
-use Rattle.gb_print_text.specs.Layout.{letter, stands, outcome, type_needed}
+use Rattle.gb_print_names.specs.Open.{type_of, is_open, is_int, type_read}
+use Rattle.gb_print.specs.Layout.{letter, stands, outcome, type_needed}
 use Rattle.gb_print.specs.Nodes.{words}
 
 -- Names and numbers.

@@ -1,25 +1,25 @@
 // Goals and forms as text.
 
 ghost use Rattle.std.specs.Prelude.{◌≡◌, [], ◌++◌, map, IfOk, OnOk};
-ghost use Rattle.gb_shapes.specs.Names.{place};
+ghost use Rattle.gb_print_names.specs.BoundNames.{place};
 ghost use Rattle.gb_print_names.specs.Text.{each};
-ghost use Rattle.gb_print_text.specs.Goals.{typed_names, with_enumerations, context_names, variable_line, memory_line, module_line, hypothesis_line, goal_text, place_of_form, place_of_goal, printed_form, printed_goal};
+ghost use Rattle.gb_print.specs.GoalText.{typed_names, with_enumerations, context_names, variable_line, memory_line, module_line, hypothesis_line, goal_text, place_of_form, place_of_goal, printed_form, printed_goal};
 ghost use Rattle.gb_print.specs.Forms.{form_tree};
 ghost use Rattle.gb_print.specs.Goals.{IsWrittenGoal, IsGoalReadAs};
 ghost use Rattle.gb_print.specs.ReadBack.{IsReadAs};
 ghost use Rattle.gb_print.specs.Written.{IsWritten};
 
+use crate::form::put_form;
 use crate::laws::{printed_forms_are_read, printed_goals_are_read};
 use gb_core::Stack;
 use gb_core::name::{Name, Names};
 use gb_goal::scope::Scope;
 use gb_goal::sequent::{Hyp, Sequent};
+use gb_print_names::bound_names::{Enumeration, Setting};
 use gb_print_names::modules::put_abstract_module;
 use gb_print_names::occurring::note_name;
 use gb_print_names::text::{Page, Text};
 use gb_print_names::types::put_type;
-use gb_print_text::form::put_form;
-use gb_shapes::place::{Enumeration, Setting};
 use gb_terms::decl::TypedName;
 use gb_terms::module::Bind;
 use gb_terms::term::Form;

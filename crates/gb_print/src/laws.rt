@@ -3,10 +3,10 @@
 ghost use Rattle.std.specs.Prelude.{◌≡◌, true, false, List, [], ◌∷◌};
 ghost use Rattle.gb_goal.specs.Scope.{Declarations};
 ghost use Rattle.gb_terms.specs.declared.decl.TypedName.{TypedName};
-ghost use Rattle.gb_shapes.specs.declared.place.Enumeration.{Enumeration};
-ghost use Rattle.gb_shapes.specs.Names.{Name, Place};
+ghost use Rattle.gb_print_names.specs.declared.bound_names.Enumeration.{Enumeration};
+ghost use Rattle.gb_print_names.specs.BoundNames.{Name, Place};
 ghost use Rattle.gb_goal.specs.declared.sequent.Sequent.{Sequent};
-ghost use Rattle.gb_print_text.specs.Goals.{place_of_form, place_of_goal, printed_form, printed_goal};
+ghost use Rattle.gb_print.specs.GoalText.{place_of_form, place_of_goal, printed_form, printed_goal};
 ghost use Rattle.gb_print.specs.Goals.{IsWrittenGoal, IsGoalReadAs};
 ghost use Rattle.gb_print.specs.Written.{IsWritten};
 ghost use Rattle.gb_print.specs.ReadBack.{IsReadAs};

@@ -7,7 +7,7 @@ use Rattle.std.specs.Str.Parse.{AllDigits}
 use Rattle.std.proofs.lemmas.Fmt.{decimal_is_IsNumeral, decimal_injective, decimal_nonempty}
 use Rattle.std.proofs.lemmas.Str.Parse.{digit_from_value}
 use Rattle.gb_goal.specs.Scope.{declarations_in}
-use Rattle.gb_shapes.specs.Names.{Place, primed, numbered, is_taken, bound_name}
+use Rattle.gb_print_names.specs.BoundNames.{Place, primed, numbered, is_taken, bound_name}
 
 abbrev primes : ℕ → List ℕ
 primes zero = []

@@ -11,7 +11,7 @@ use Rattle.gb_terms.specs.declared.term.Head.TheOpen as layer
 use Rattle.gb_terms.specs.declared.term.Head.TheViews.{out-Term}
 use Rattle.gb_terms.specs.declared.term.Head.TheFolds.{fold_out-Term, fold_out-Cmd, fold-roll-Head, fold-roll-Instr}
 use Rattle.gb_print_names.specs.Text.{each}
-use Rattle.gb_shapes.specs.Names.{Name}
+use Rattle.gb_print_names.specs.BoundNames.{Name}
 use Rattle.gb_print_names.specs.Occurring.{Noting, local, at_head, at_instr, at_subject, at_cmd, at_term, is_closed, head_local, head_locals, term_locals, cmd_locals, instr_locals}
 use Rattle.gb_print_names.proofs.Lists.{each_made}
 

@@ -1,3 +1,6 @@
+pub mod Open
+pub mod Shapes
+pub mod BoundNames
 pub mod Text
 pub mod Names
 pub mod Types

@@ -5,9 +5,9 @@ use Rattle.gb_terms.specs.declared.module.Mexp.TheOpen as layer
 use Rattle.gb_terms.specs.declared.module.ProcRef.{ProcRef}
 use Rattle.gb_terms.specs.declared.module.Bound.{Bound}
 use Rattle.gb_terms.specs.declared.module.Bind.{Bind}
-use Rattle.gb_shapes.specs.declared.place.Known.{Known}
+use Rattle.gb_print_names.specs.declared.bound_names.Known.{Known}
 use Rattle.gb_print_names.specs.Text.{Writing, ◌▸◌, nothing, word, number, separated}
-use Rattle.gb_shapes.specs.Names.{Name}
+use Rattle.gb_print_names.specs.BoundNames.{Name}
 use Rattle.gb_print_names.specs.Names.{module_name}
 
 abbrev pub Shown : Type 0

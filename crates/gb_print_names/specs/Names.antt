@@ -8,9 +8,9 @@ use Rattle.gb_terms.specs.declared.op.Side.{Side}
 use Rattle.gb_terms.specs.declared.op.Side.TheVariants as side
 use Rattle.gb_terms.specs.declared.op.Read.{Read}
 use Rattle.gb_terms.specs.declared.op.Read.TheVariants.{Logical, Program}
-use Rattle.gb_shapes.specs.declared.place.Enumeration.{Enumeration}
-use Rattle.gb_shapes.specs.declared.place.Known.{Known}
-use Rattle.gb_shapes.specs.Names.{Name, Place}
+use Rattle.gb_print_names.specs.declared.bound_names.Enumeration.{Enumeration}
+use Rattle.gb_print_names.specs.declared.bound_names.Known.{Known}
+use Rattle.gb_print_names.specs.BoundNames.{Name, Place}
 use Rattle.gb_print_names.specs.Text.{Writing, ◌▸◌, nothing, word}
 
 -- a module that is bound is printed by the name of its binder

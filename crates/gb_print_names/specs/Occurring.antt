@@ -15,7 +15,7 @@ use Rattle.gb_terms.specs.declared.term.Instr.{Instr}
 use Rattle.gb_terms.specs.declared.term.Cmd.{Cmd}
 use Rattle.gb_terms.specs.Heads.{is_judgment}
 use Rattle.gb_print_names.specs.Text.{◌▸◌, nothing, each}
-use Rattle.gb_shapes.specs.Names.{Name, Place}
+use Rattle.gb_print_names.specs.BoundNames.{Name, Place}
 
 -- what a list of names becomes when further ones are put behind it
 abbrev pub Noting : Type 0

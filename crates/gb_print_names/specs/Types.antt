@@ -2,7 +2,7 @@
 use Rattle.std.specs.Prelude.{Bool, true, false, List, codes}
 use Rattle.gb_core.specs.declared.ty.Ty.{Ty, fold-Ty}
 use Rattle.gb_core.specs.declared.ty.Ty.TheOpen as layer
-use Rattle.gb_shapes.specs.declared.place.Known.{Known}
+use Rattle.gb_print_names.specs.declared.bound_names.Known.{Known}
 use Rattle.gb_print_names.specs.Text.{Writing, ◌▸◌, word, number, separated}
 use Rattle.gb_print_names.specs.Names.{module_name}
 

@@ -1,7 +1,7 @@
 // Laws of names.
 
 ghost use Rattle.std.specs.Prelude.{◌≢◌, ◌<◌, ◌^◌, ℕ, [], ◌∷◌, length};
-ghost use Rattle.gb_shapes.specs.Names.{Place, bound_name};
+ghost use Rattle.gb_print_names.specs.BoundNames.{Place, bound_name};
 
 /// Binders with different numbers of binders around them have different names, whatever their letters and whatever is in scope. So no
 /// binder hides the name of one around it.

@@ -4,11 +4,11 @@ ghost use Rattle.std.specs.Prelude.{◌≡◌, map, codes, OnOk};
 ghost use Rattle.gb_print_names.specs.Text.{word, separated};
 ghost use Rattle.gb_print_names.specs.Modules.{module_text, procedure, restriction, limit, limits, abstract_module, excluded};
 
+use crate::bound_names::Known;
 use crate::place::put_module_name;
 use crate::text::Text;
 use gb_core::Stack;
 use gb_core::name::Name;
-use gb_shapes::place::Known;
 use gb_terms::module::{Bind, Bound, Mexp, ProcRef};
 use std::alloc::{AllocError, Global};
 

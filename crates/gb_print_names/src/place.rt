@@ -1,15 +1,15 @@
 // What a form names, as text: modules, variables, memories and what is bound.
 
 ghost use Rattle.std.specs.Prelude.{◌≡◌, OnOk};
-ghost use Rattle.gb_shapes.specs.Names.{place};
+ghost use Rattle.gb_print_names.specs.BoundNames.{place};
 ghost use Rattle.gb_print_names.specs.Names.{module_name, variable, memory, beside, read, bound_at, constants};
 ghost use Rattle.gb_print_names.specs.Text.{word};
 
+use crate::bound_names::{Enumeration, Known, Setting};
 use crate::text::Text;
 use gb_core::Stack;
 use gb_core::name::Name;
 use gb_core::var::Var;
-use gb_shapes::place::{Enumeration, Known, Setting};
 use gb_terms::op::{Read, Side};
 use std::alloc::AllocError;
 

@@ -4,8 +4,8 @@ ghost use Rattle.std.specs.Prelude.{◌≡◌, [], IfOk, OnOk};
 ghost use Rattle.std.specs.Fmt.{signed_decimal};
 ghost use Rattle.gb_print_names.specs.Text.{word, number, bar};
 
+use crate::bound_names::Known;
 use gb_core::Stack;
-use gb_shapes::place::Known;
 use std::alloc::{AllocError, Global};
 use std::marker::Model;
 

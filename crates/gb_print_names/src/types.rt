@@ -5,11 +5,11 @@ ghost use Rattle.std.specs.Prelude.{◌≡◌, map, codes, OnOk};
 ghost use Rattle.gb_print_names.specs.Text.{separated};
 ghost use Rattle.gb_print_names.specs.Types.{type_text, type_part, type_operand, operand};
 
+use crate::bound_names::Known;
 use crate::place::put_module_name;
 use crate::text::Text;
 use gb_core::Stack;
 use gb_core::ty::Ty;
-use gb_shapes::place::Known;
 use std::alloc::{AllocError, Global};
 
 fn is_product(t: &Ty) -> bool

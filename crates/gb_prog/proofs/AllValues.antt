@@ -25,8 +25,8 @@ use Rattle.gb_meaning.specs.Terms.{quiet}
 use Rattle.gb_meaning.specs.Values.{has}
 use Rattle.gb_meaning.specs.Judgments.{Judge, IsFair, den}
 use Rattle.gb_meaning.specs.Commands.{statements}
-use Rattle.gb_coupling.specs.WeightedList.{Every}
-use Rattle.gb_coupling.proofs.Entries.{Every-weaken}
+use Rattle.gb_dist.specs.WeightedList.{Every}
+use Rattle.gb_dist.proofs.Entries.{Every-weaken}
 use Rattle.gb_terms.specs.declared.term.Instr.{Instr}
 use Rattle.gb_typing.specs.Meaning.{run}
 use Rattle.gb_meaning.proofs.Nodes.{val_node, term_is_node}

@@ -12,7 +12,7 @@ use Rattle.gb_terms.specs.declared.term.Head.TheBlock as B
 use Rattle.gb_terms.specs.declared.term.Head.TheVariants as head
 use Rattle.gb_terms.specs.declared.term.Head.TheVariants.{Assign, Sample, Call', If', While, While'}
 use Rattle.gb_terms.specs.declared.term.Instr.{Instr, Row_of-Instr, end_of-Instr, more_of-Instr}
-use Rattle.gb_coupling.specs.WeightedList.{bind, dmap, scale}
+use Rattle.gb_dist.specs.WeightedList.{bind, dmap, scale}
 use Rattle.gb_meaning.specs.Commands.{terms_in, called, program_of}
 use Rattle.gb_meaning.specs.Memory.{Memory, assigned, write}
 use Rattle.gb_meaning.specs.Meanings.{truth, value_in, number_in, weights_in}

@@ -7,8 +7,8 @@ use Rattle.gb_terms.specs.declared.module.ProcRef.{ProcRef}
 use Rattle.gb_terms.specs.declared.term.Head.TheVariants.{Call}
 use Rattle.gb_terms.specs.declared.term.Instr.{Instr}
 use Rattle.gb_terms.specs.declared.term.Term.{Term}
-use Rattle.gb_coupling.specs.WeightedList.{bind, dmap}
-use Rattle.gb_coupling.proofs.Monad.{bind-unit_right}
+use Rattle.gb_dist.specs.WeightedList.{bind, dmap}
+use Rattle.gb_dist.proofs.Monad.{bind-unit_right}
 use Rattle.gb_meaning.specs.Commands.{called, statements}
 use Rattle.gb_meaning.specs.Judgments.{from_frame}
 use Rattle.gb_meaning.specs.Memory.{Memory, arguments, outcome, first_values, result_in}

@@ -2,9 +2,9 @@
 use Rattle.std.proofs.Common.{◌≡◌, ◌↔◌, ℕ, ◌*◌, ◌≤◌, Bool, true, false, not, ℤ, pos, negsuc, refl, ap, sym, ◌∙◌, arith}
 use Rattle.std.proofs.lemmas.Bool.{false≢true, le-leb, leb-true}
 use Rattle.std.proofs.lemmas.Bool.Decides.{Decides-int_eq}
-use Rattle.gb_coupling.specs.WeightedList.{WeightedList, total, weight, Every, IsPositive}
-use Rattle.gb_coupling.proofs.Entries.{Every-weaken}
-use Rattle.gb_coupling.proofs.Weights.{weight-every, weight-le_total, weight-not}
+use Rattle.gb_dist.specs.WeightedList.{WeightedList, total, weight, Every, IsPositive}
+use Rattle.gb_dist.proofs.Entries.{Every-weaken}
+use Rattle.gb_dist.proofs.Weights.{weight-every, weight-le_total, weight-not}
 use Rattle.gb_terms.specs.declared.op.Rel.TheVariants.{Equal, AtLeast, AtMost}
 use Rattle.gb_meaning.specs.Judgments.{compares, chance}
 use Rattle.gb_meaning.specs.Memory.{Memory}

@@ -4,16 +4,16 @@ use Rattle.std.proofs.lemmas.Bool.{false≢true}
 use Rattle.std.proofs.Math.Nat.{eq_of_mul-eq-mul_right}
 use Rattle.gb_terms.specs.declared.op.Rel.{Rel}
 use Rattle.gb_terms.specs.declared.term.Instr.{Instr}
-use Rattle.gb_coupling.specs.WeightedList.{WeightedList, weight, bit, bind, scale, unit, On, Every, SameDistribution}
-use Rattle.gb_coupling.specs.Coupling.{Coupling}
-use Rattle.gb_coupling.proofs.Basic.{coupling_identity, coupling_weakening, coupling_product, coupling_left_alone, coupling_right_alone, coupling_same}
-use Rattle.gb_coupling.proofs.Distributions.{same_reflexive, same_symmetric, same_transitive, same_bind}
-use Rattle.gb_coupling.proofs.Entries.{On_of_Every, Every-weaken}
-use Rattle.gb_coupling.proofs.Facts.{coupling_facts}
-use Rattle.gb_coupling.proofs.Gluing.{coupling_gluing}
-use Rattle.gb_coupling.proofs.Masses.{mass-scale}
-use Rattle.gb_coupling.proofs.Sequence.{coupling_sequence}
-use Rattle.gb_coupling.proofs.Weights.{weight-every, weight-false}
+use Rattle.gb_dist.specs.WeightedList.{WeightedList, weight, bit, bind, scale, unit, On, Every, SameDistribution}
+use Rattle.gb_dist.specs.Coupling.{Coupling}
+use Rattle.gb_dist.proofs.Basic.{coupling_identity, coupling_weakening, coupling_product, coupling_left_alone, coupling_right_alone, coupling_same}
+use Rattle.gb_dist.proofs.Distributions.{same_reflexive, same_symmetric, same_transitive, same_bind}
+use Rattle.gb_dist.proofs.Entries.{On_of_Every, Every-weaken}
+use Rattle.gb_dist.proofs.Facts.{coupling_facts}
+use Rattle.gb_dist.proofs.Gluing.{coupling_gluing}
+use Rattle.gb_dist.proofs.Masses.{mass-scale}
+use Rattle.gb_dist.proofs.Sequence.{coupling_sequence}
+use Rattle.gb_dist.proofs.Weights.{weight-every, weight-false}
 use Rattle.gb_meaning.specs.Commands.{statements}
 use Rattle.gb_meaning.specs.Fractions.{Fraction}
 use Rattle.gb_meaning.specs.Judgments.{compares, chance}

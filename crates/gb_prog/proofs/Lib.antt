@@ -1,3 +1,11 @@
+pub mod Bound
+pub mod Chances
+pub mod Comparing
+pub mod Reals
+pub mod Weaker
+pub mod AssignedForms
+pub mod Likely
+pub mod Parts
 pub mod Straight
 pub mod Writes
 pub mod Frames

@@ -1,8 +1,8 @@
 -- Laws of loops, for statements.
 use Rattle.std.proofs.Common.{◌≡◌, ◌<◌, Bool, true, false, not, ◌&&◌, List, [], ◌∷◌, ◌++◌, ap, sym, ◌∙◌, subst}
-use Rattle.gb_coupling.specs.WeightedList.{Every, weight, unit}
-use Rattle.gb_coupling.specs.Coupling.{Coupling}
-use Rattle.gb_coupling.proofs.Basic.{coupling_symmetry}
+use Rattle.gb_dist.specs.WeightedList.{Every, weight, unit}
+use Rattle.gb_dist.specs.Coupling.{Coupling}
+use Rattle.gb_dist.proofs.Basic.{coupling_symmetry}
 use Rattle.gb_terms.specs.declared.term.Cmd.{Cmd}
 use Rattle.gb_terms.specs.declared.term.Head.TheVariants.{While}
 use Rattle.gb_terms.specs.declared.term.Instr.{Instr}

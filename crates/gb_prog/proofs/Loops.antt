@@ -1,15 +1,15 @@
 -- A good loop runs as its unrolling; what its body keeps, it keeps.
 use Rattle.std.proofs.Common.{◌≡◌, ℕ, suc, ◌+◌, ◌-◌, ◌*◌, ◌^◌, ◌<◌, ◌≤◌, Bool, true, false, if◌then◌else◌, not, ◌&&◌, [], ◌∷◌, refl, ap, sym, ◌∙◌, subst, arith}
 use Rattle.std.proofs.Math.Nat.{pow-suc, pow-zero, mul-le-mul_left, eq_of_mul-eq-mul_right, le_of_mul-le-mul_right}
-use Rattle.gb_coupling.specs.WeightedList.{WeightedList, mass, weight, bit, scale, bind, unit, Every, IsPositive, SameDistribution}
-use Rattle.gb_coupling.specs.Coupling.{Coupling}
-use Rattle.gb_coupling.proofs.Basic.{coupling_same}
-use Rattle.gb_coupling.proofs.Distributions.{same_symmetric, same_transitive, same_bind, same_reflexive}
-use Rattle.gb_coupling.proofs.Masses.{mass-bind, mass-times, mass-every, mass-scale}
-use Rattle.gb_coupling.proofs.Monad.{bind-unit_right}
-use Rattle.gb_coupling.proofs.Entries.{Every-scale, Every-weaken, On_of_Every}
-use Rattle.gb_coupling.proofs.Facts.{coupling_facts, coupling_fact_left}
-use Rattle.gb_coupling.proofs.Weights.{weight-every, weight-false, weight-le_total}
+use Rattle.gb_dist.specs.WeightedList.{WeightedList, mass, weight, bit, scale, bind, unit, Every, IsPositive, SameDistribution}
+use Rattle.gb_dist.specs.Coupling.{Coupling}
+use Rattle.gb_dist.proofs.Basic.{coupling_same}
+use Rattle.gb_dist.proofs.Distributions.{same_symmetric, same_transitive, same_bind, same_reflexive}
+use Rattle.gb_dist.proofs.Masses.{mass-bind, mass-times, mass-every, mass-scale}
+use Rattle.gb_dist.proofs.Monad.{bind-unit_right}
+use Rattle.gb_dist.proofs.Entries.{Every-scale, Every-weaken, On_of_Every}
+use Rattle.gb_dist.proofs.Facts.{coupling_facts, coupling_fact_left}
+use Rattle.gb_dist.proofs.Weights.{weight-every, weight-false, weight-le_total}
 use Rattle.gb_terms.specs.declared.term.Term.{Term}
 use Rattle.gb_meaning.specs.Memory.{Memory}
 use Rattle.gb_meaning.specs.Loops.{GoodFrom, IsGood}

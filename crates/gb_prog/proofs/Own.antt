@@ -12,7 +12,7 @@ use Rattle.gb_meaning.specs.Setting.{Setting}
 use Rattle.gb_meaning.specs.State.{closed}
 use Rattle.gb_meaning.proofs.Bodies.{statement_if, statement_while}
 use Rattle.gb_typing.proofs.Runs.{statements_followed}
-use Rattle.gb_holds.specs.Holds.{LoopsAreGood}
+use Rattle.gb_meaning.specs.Holds.{LoopsAreGood}
 
 module _ (g : Setting) where
   abbrev pub Good : List Instr → Type 0

@@ -1,6 +1,6 @@
 -- The loops that statements reach, and good loops of typed statements in each state.
 use Rattle.std.proofs.Common.{◌≡◌, ◌^◌, false, ◌↔◌, List, [], ◌∷◌, ◌++◌, ap, sym, ◌∙◌, subst}
-use Rattle.gb_coupling.specs.WeightedList.{Every, SameDistribution}
+use Rattle.gb_dist.specs.WeightedList.{Every, SameDistribution}
 use Rattle.gb_terms.specs.declared.decl.TypedName.{TypedName}
 use Rattle.gb_terms.specs.declared.term.Cmd.{Cmd}
 use Rattle.gb_terms.specs.declared.term.Head.TheVariants.{If, While}

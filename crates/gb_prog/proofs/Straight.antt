@@ -4,8 +4,8 @@ use Rattle.gb_terms.specs.declared.term.Cmd.{Cmd}
 use Rattle.gb_terms.specs.declared.term.Instr.{Instr, Row_of-Instr, end_of-Instr, more_of-Instr}
 use Rattle.gb_terms.specs.declared.term.Term.{Term}
 use Rattle.gb_terms.specs.declared.term.Head.TheVariants.{Assign, Sample, Call', If, If', While'}
-use Rattle.gb_coupling.specs.WeightedList.{unit, bind, scale}
-use Rattle.gb_coupling.proofs.Monad.{bind-unit}
+use Rattle.gb_dist.specs.WeightedList.{unit, bind, scale}
+use Rattle.gb_dist.proofs.Monad.{bind-unit}
 use Rattle.gb_meaning.specs.Memory.{Memory, assigned}
 use Rattle.gb_meaning.specs.Program.{Program}
 use Rattle.gb_meaning.specs.Program.Program.{done, assign, sample, branch, loop, call, ask}

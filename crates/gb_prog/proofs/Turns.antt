@@ -2,13 +2,13 @@
 use Rattle.std.proofs.Common.{◌≡◌, ℕ, zero, suc, ◌+◌, ◌*◌, ◌^◌, ◌≤◌, Bool, true, false, if◌then◌else◌, [], ◌∷◌, ◌++◌, refl, ap, sym, ◌∙◌, subst, arith}
 use Rattle.std.proofs.lemmas.Bool.{false≢true}
 use Rattle.std.proofs.Math.Nat.{pow-suc, pow-zero, mul-le-mul_left}
-use Rattle.gb_coupling.specs.WeightedList.{WeightedList, mass, weight, bit, scale, bind, unit, Every, SameDistribution}
-use Rattle.gb_coupling.specs.Coupling.{Coupling}
-use Rattle.gb_coupling.proofs.Masses.{mass-bind, mass-times, mass-every, mass-bind_ge}
-use Rattle.gb_coupling.proofs.Entries.{Every-bind}
-use Rattle.gb_coupling.proofs.Basic.{coupling_rescaling}
-use Rattle.gb_coupling.proofs.Sequence.{coupling_sequence}
-use Rattle.gb_coupling.proofs.Facts.{coupling_fact_right}
+use Rattle.gb_dist.specs.WeightedList.{WeightedList, mass, weight, bit, scale, bind, unit, Every, SameDistribution}
+use Rattle.gb_dist.specs.Coupling.{Coupling}
+use Rattle.gb_dist.proofs.Masses.{mass-bind, mass-times, mass-every, mass-bind_ge}
+use Rattle.gb_dist.proofs.Entries.{Every-bind}
+use Rattle.gb_dist.proofs.Basic.{coupling_rescaling}
+use Rattle.gb_dist.proofs.Sequence.{coupling_sequence}
+use Rattle.gb_dist.proofs.Facts.{coupling_fact_right}
 use Rattle.gb_laws.proofs.Fair.{memory_discrete}
 use Rattle.gb_meaning.specs.Memory.{Memory}
 use Rattle.gb_meaning.specs.Runs.{turns}

@@ -8,8 +8,8 @@ use Rattle.gb_core.specs.declared.var.Var.{Var}
 use Rattle.gb_core.specs.declared.var.Var.TheVariants as var
 use Rattle.gb_terms.specs.declared.module.Mexp.TheVariants.{Name as named}
 use Rattle.gb_terms.specs.Equal.{var_eq}
-use Rattle.gb_coupling.specs.WeightedList.{WeightedList, Every}
-use Rattle.gb_coupling.proofs.Entries.{Every-weaken}
+use Rattle.gb_dist.specs.WeightedList.{WeightedList, Every}
+use Rattle.gb_dist.proofs.Entries.{Every-weaken}
 use Rattle.gb_meaning.specs.Memory.{Memory, read}
 use Rattle.gb_meaning.specs.Names.{Name}
 use Rattle.gb_meaning.specs.Program.{Program, Routine}
@@ -24,7 +24,7 @@ use Rattle.gb_laws.specs.Cells.Key.{global, local}
 use Rattle.gb_laws.specs.Writes.{key_of_global, keys_of, IsNone, Spares, IfGlobal, UnwrittenBy}
 use Rattle.gb_laws.proofs.Cells.{read_agree}
 use Rattle.gb_laws.proofs.Leaves.{run_leaves}
-use Rattle.gb_holds.specs.Footprints.{globals_among, is_global}
+use Rattle.gb_meaning.specs.Footprints.{globals_among, is_global}
 use Rattle.gb_typing.specs.Puts.{clash}
 use Rattle.gb_typing.proofs.Globals.{or_false, same_global, none_of}
 use Rattle.gb_prog.specs.Writes.{written, written_by, WritesWithin, DifferIn, IsApart}

@@ -18,9 +18,9 @@ use Rattle.gb_meaning.specs.Judgments.{Judge, IsFair}
 use Rattle.gb_meaning.specs.Program.{Routine}
 use Rattle.gb_meaning.specs.Setting.{Setting}
 use Rattle.gb_meaning.specs.State.{State}
-use Rattle.gb_holds.specs.Declared.{Declarations}
-use Rattle.gb_holds.specs.Holds.{InEachSetting, LoopsAreGood}
-use Rattle.gb_holds.specs.Naming.{EachCallOf}
+use Rattle.gb_meaning.specs.Declared.{Declarations}
+use Rattle.gb_meaning.specs.Holds.{InEachSetting, LoopsAreGood}
+use Rattle.gb_meaning.specs.Naming.{EachCallOf}
 use Rattle.gb_goal.specs.Scope as scope
 use Rattle.gb_goal.specs.Scope.{procedure_of}
 use Rattle.gb_typing.specs.Context.{Context}

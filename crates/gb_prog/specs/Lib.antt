@@ -1,3 +1,9 @@
+pub mod Compared
+pub mod Judged
+pub mod Likely
+pub mod OneBody
+pub mod Assigned
+pub mod Same
 pub mod Straight
 pub mod Writes
 pub mod Loops

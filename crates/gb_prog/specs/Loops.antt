@@ -1,6 +1,6 @@
 -- Programs whose loops end.
 use Rattle.std.specs.Prelude.{[], ◌∷◌, ◌++◌}
-use Rattle.gb_coupling.specs.WeightedList.{SameDistribution}
+use Rattle.gb_dist.specs.WeightedList.{SameDistribution}
 use Rattle.gb_terms.specs.declared.term.Cmd.{Cmd}
 use Rattle.gb_terms.specs.declared.term.Head.TheVariants.{If, While}
 use Rattle.gb_terms.specs.declared.term.Instr.{Instr}

@@ -13,7 +13,7 @@ use Rattle.gb_meaning.specs.Values.{Types}
 use Rattle.gb_laws.specs.Cells.{Key, get_at}
 use Rattle.gb_laws.specs.Cells.Key.{global}
 use Rattle.gb_laws.specs.Writes.{Spares, Unwritten, UnwrittenBy}
-use Rattle.gb_holds.specs.Footprints.{globals_among}
+use Rattle.gb_meaning.specs.Footprints.{globals_among}
 use Rattle.gb_laws.specs.Finite.{IsFinite}
 use Rattle.gb_typing.specs.Context.{Context, Frame}
 use Rattle.gb_typing.specs.Typing.{IsIn}

@@ -2,7 +2,7 @@
 
 ghost use Rattle.std.specs.Prelude.{◌≡◌, true, List, ◌++◌};
 ghost use Rattle.gb_core.specs.declared.var.Var.{Var};
-ghost use Rattle.gb_coupling.specs.WeightedList.{Every};
+ghost use Rattle.gb_dist.specs.WeightedList.{Every};
 ghost use Rattle.gb_terms.specs.declared.op.Side.{Side};
 ghost use Rattle.gb_terms.specs.declared.op.Side.TheVariants.{Own, Left, Right};
 ghost use Rattle.gb_terms.specs.declared.term.Instr.{Instr};

@@ -3,7 +3,7 @@
 ghost use Rattle.std.specs.Prelude.{◌≡◌, ◌*◌, List, [], ◌∷◌, map, Some};
 ghost use Rattle.gb_core.specs.declared.value.Value.{Value};
 ghost use Rattle.gb_core.specs.declared.var.Var.{Var};
-ghost use Rattle.gb_coupling.specs.WeightedList.{bind, dmap};
+ghost use Rattle.gb_dist.specs.WeightedList.{bind, dmap};
 ghost use Rattle.gb_terms.specs.declared.decl.TypedName.{TypedName};
 ghost use Rattle.gb_terms.specs.declared.module.ProcRef.{ProcRef};
 ghost use Rattle.gb_terms.specs.declared.term.Head.TheVariants.{Call};

@@ -1,7 +1,7 @@
 //! Events that are certain, or impossible.
 
 ghost use Rattle.std.specs.Prelude.{◌≡◌, ◌↔◌, ◌≤◌, ℕ, Bool, true, pos};
-ghost use Rattle.gb_coupling.specs.WeightedList.{WeightedList, total, weight, Every, IsPositive};
+ghost use Rattle.gb_dist.specs.WeightedList.{WeightedList, total, weight, Every, IsPositive};
 ghost use Rattle.gb_terms.specs.declared.op.Rel.TheVariants.{Equal, AtLeast, AtMost};
 ghost use Rattle.gb_meaning.specs.Judgments.{compares, chance};
 ghost use Rattle.gb_meaning.specs.Memory.{Memory};

@@ -1,8 +1,8 @@
 //! Couplings of runs, and runs that are one distribution. Relations are tests here, as forms are under a judge.
 
 ghost use Rattle.std.specs.Prelude.{◌≡◌, ℕ, ◌<◌, Bool, true, List, [], ◌++◌};
-ghost use Rattle.gb_coupling.specs.WeightedList.{WeightedList, Every};
-ghost use Rattle.gb_coupling.specs.Coupling.{Coupling, Passes};
+ghost use Rattle.gb_dist.specs.WeightedList.{WeightedList, Every};
+ghost use Rattle.gb_dist.specs.Coupling.{Coupling, Passes};
 ghost use Rattle.gb_terms.specs.declared.op.Rel.{Rel};
 ghost use Rattle.gb_terms.specs.declared.term.Instr.{Instr};
 ghost use Rattle.gb_terms.specs.declared.term.Term.{Term};

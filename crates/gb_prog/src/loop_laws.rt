@@ -1,8 +1,8 @@
 //! Loops that end.
 
 ghost use Rattle.std.specs.Prelude.{◌≡◌, ℕ, ◌<◌, Bool, true, false, not, ◌&&◌, ◌↔◌, List, [], ◌∷◌, ◌++◌};
-ghost use Rattle.gb_coupling.specs.WeightedList.{SameDistribution, Every, weight};
-ghost use Rattle.gb_coupling.specs.Coupling.{Coupling};
+ghost use Rattle.gb_dist.specs.WeightedList.{SameDistribution, Every, weight};
+ghost use Rattle.gb_dist.specs.Coupling.{Coupling};
 ghost use Rattle.gb_terms.specs.declared.decl.TypedName.{TypedName};
 ghost use Rattle.gb_terms.specs.declared.term.Cmd.{Cmd};
 ghost use Rattle.gb_terms.specs.declared.term.Head.TheVariants.{If, While};

@@ -1,7 +1,7 @@
 //! Statements without chance.
 
 ghost use Rattle.std.specs.Prelude.{◌≡◌, if◌then◌else◌, List, ◌∷◌, ◌++◌};
-ghost use Rattle.gb_coupling.specs.WeightedList.{unit};
+ghost use Rattle.gb_dist.specs.WeightedList.{unit};
 ghost use Rattle.gb_terms.specs.declared.term.Cmd.{Cmd};
 ghost use Rattle.gb_terms.specs.declared.term.Head.TheVariants.{If};
 ghost use Rattle.gb_terms.specs.declared.term.Instr.{Instr};

@@ -4,7 +4,7 @@ ghost use Rattle.std.specs.Prelude.{◌≡◌, Bool, true, List, [], ◌∷◌, 
 ghost use Rattle.std.specs.List.{AllByRecursion, list_any};
 ghost use Rattle.gb_core.specs.declared.ty.Ty.{Ty};
 ghost use Rattle.gb_core.specs.declared.var.Var.{Var};
-ghost use Rattle.gb_coupling.specs.WeightedList.{Every};
+ghost use Rattle.gb_dist.specs.WeightedList.{Every};
 ghost use Rattle.gb_terms.specs.declared.op.Side.{Side};
 ghost use Rattle.gb_terms.specs.declared.module.ProcRef.{ProcRef};
 ghost use Rattle.gb_terms.specs.declared.term.Cmd.{Cmd};

@@ -4,8 +4,8 @@ use Rattle.std.proofs.Common.{refl, inl, inr, ⊎_elim}
 use Rattle.gb_core.specs.declared.place.Place.{Place}
 use Rattle.gb_core.specs.declared.refusal.Why.{Why}
 use Rattle.gb_core.specs.declared.refusal.Why.TheVariants.{Depth, LeftOut, Overflow, Syntax, TooMany}
-use Rattle.gb_grammar.specs.declared.table.Step.{Step}
-use Rattle.gb_grammar.specs.Reading.{FirstFault, StepsBefore, IsTextOrFault}
+use Rattle.gb_script.specs.declared.table.Step.{Step}
+use Rattle.gb_script.specs.Parsing.{FirstFault, StepsBefore, IsTextOrFault}
 use Rattle.gb_script.specs.declared.action.Rule.{Rule}
 use Rattle.gb_script.specs.declared.text.Text.{Text}
 use Rattle.gb_script.specs.declared.tree.Node.{Node}

@@ -7,7 +7,7 @@ use Rattle.gb_core.specs.declared.place.Place.{Place}
 use Rattle.gb_core.specs.declared.refusal.Refused.TheVariants.{Script}
 use Rattle.gb_core.specs.declared.refusal.Why.{Why}
 use Rattle.gb_core.specs.declared.refusal.Why.TheVariants.{Character}
-use Rattle.gb_grammar.specs.declared.table.Step.{Step}
+use Rattle.gb_script.specs.declared.table.Step.{Step}
 use Rattle.gb_lex.specs.Lex.{fault_of}
 use Rattle.gb_lex.specs.PlaceAfter.{place_after}
 use Rattle.gb_script.specs.declared.action.Rule.{Rule}

@@ -5,8 +5,8 @@ use Rattle.std.proofs.lemmas.Bool.{false≢true}
 use Rattle.gb_core.specs.declared.place.Place.{Place}
 use Rattle.gb_core.specs.declared.refusal.Why.{Why}
 use Rattle.gb_core.specs.declared.refusal.Why.TheVariants.{Overflow}
-use Rattle.gb_grammar.specs.declared.table.Step.{Step}
-use Rattle.gb_grammar.specs.Reading.{FirstFault, StepsBefore}
+use Rattle.gb_script.specs.declared.table.Step.{Step}
+use Rattle.gb_script.specs.Parsing.{FirstFault, StepsBefore}
 use Rattle.gb_script.specs.declared.action.Rule.{Rule}
 use Rattle.gb_language.specs.Language.{language, IsPart}
 use Rattle.gb_script.specs.declared.text.Text.{Text}

@@ -6,8 +6,8 @@ use Rattle.gb_core.specs.declared.refusal.Refused.{Refused}
 use Rattle.gb_core.specs.declared.refusal.Refused.TheVariants.{NoMemory, ReadFault, Script}
 use Rattle.gb_core.specs.declared.refusal.Why.{Why}
 use Rattle.gb_core.specs.declared.refusal.Why.TheVariants.{Syntax}
-use Rattle.gb_grammar.specs.declared.table.Step.{Step}
-use Rattle.gb_grammar.specs.Reading.{Spells, FirstFault}
+use Rattle.gb_script.specs.declared.table.Step.{Step}
+use Rattle.gb_script.specs.Parsing.{Spells, FirstFault}
 use Rattle.gb_script.specs.declared.action.Rule.{Rule}
 use Rattle.gb_language.specs.declared.rows.TheConstants.{ENTRY, HYPOTHESIS, FORM}
 use Rattle.gb_language.specs.Language.{goal_language}

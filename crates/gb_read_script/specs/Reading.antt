@@ -3,8 +3,8 @@ use Rattle.std.specs.Prelude.{◌≡◌, ℕ, List, ◌⊎◌, length}
 use Rattle.gb_core.specs.declared.place.Place.{Place}
 use Rattle.gb_core.specs.declared.refusal.Why.{Why}
 use Rattle.gb_core.specs.declared.refusal.Why.TheVariants.{Depth, LeftOut, Syntax, TooMany}
-use Rattle.gb_grammar.specs.declared.table.Step.{Step}
-use Rattle.gb_grammar.specs.Reading.{Spells, FirstFault, StepsBefore}
+use Rattle.gb_script.specs.declared.table.Step.{Step}
+use Rattle.gb_script.specs.Parsing.{Spells, FirstFault, StepsBefore}
 use Rattle.gb_script.specs.declared.action.Rule.{Rule}
 use Rattle.gb_script.specs.declared.text.Text.{Text}
 use Rattle.gb_script.specs.declared.tree.Node.{Node}

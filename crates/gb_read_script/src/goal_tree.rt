@@ -2,7 +2,7 @@
 
 ghost use Rattle.std.specs.Prelude.{IfOk};
 ghost use Rattle.std.specs.List.{All};
-ghost use Rattle.gb_grammar.specs.Reading.{Spells};
+ghost use Rattle.gb_script.specs.Parsing.{Spells};
 ghost use Rattle.gb_language.specs.Language.{goal_language, IsLine, IsLineTree, Of};
 ghost use Rattle.gb_read_script.specs.GoalLines.{IsEntry, IsConclusion};
 ghost use Rattle.gb_read_script.specs.Goal.{AreTreesOf};

@@ -14,7 +14,6 @@ ghost use Rattle.gb_read_script.specs.Goal.{goal_text, IsTreeOf, SpellsGoal, IsS
 ghost use Rattle.gb_read_script.specs.Reading.{SpellsTree, SpellsCommand, SpellsForm, IsRefusal, IsAllowed};
 ghost use Rattle.gb_read_script.specs.Words.{IsWord, IsInRange, IsGoalInRange};
 
-use gb_grammar::laws::{first_faults_are_unique, steps_before_are_unique};
 use gb_language::laws::{
     each_text_or_fault, steps_are_unique, texts_are_spelled, texts_spell_trees, trees_are_sorted,
     trees_are_unique,
@@ -22,6 +21,7 @@ use gb_language::laws::{
 use gb_lex::laws::each_fault_has_a_place;
 use gb_limits::laws::{first_places_are_unique, kinds_are_kinds, none_or_a_first_place};
 use gb_script::action::Rule;
+use gb_script::derivation_laws::{first_faults_are_unique, steps_before_are_unique};
 
 /// A text spells one command at most.
 pub fn commands_are_unique()

@@ -16,8 +16,6 @@ ghost use Rattle.gb_read_script.specs.Reading.{IsText, SpellsTree, SpellsCommand
 
 use gb_core::place::Place;
 use gb_core::refusal::{Refused, Why};
-use gb_grammar::error::ReadError;
-use gb_grammar::table::Step;
 use gb_language::reading::{read_text, text_tree};
 use gb_language::rows::{COMMAND, FORM};
 use gb_lex::token::Tokens;
@@ -25,6 +23,8 @@ use gb_limits::checks::{check_chains, check_depth, check_numbers};
 use gb_limits::left_out::first_left_out;
 use gb_limits::lexeme::{kinds, text};
 use gb_script::action::Rule;
+use gb_script::error::ReadError;
+use gb_script::table::Step;
 use gb_script::text::{Text, place_at};
 use gb_script::tree::Node;
 use std::alloc::Global;

@@ -12,7 +12,7 @@ use Rattle.gb_terms.specs.declared.term.Subject.{Subject}
 use Rattle.gb_terms.specs.declared.term.Head.{Head}
 use Rattle.gb_terms.specs.declared.term.Head.TheVariants as head
 use Rattle.gb_terms.specs.Make.{node}
-use Rattle.gb_coupling.specs.WeightedList.{weight, dmap}
+use Rattle.gb_dist.specs.WeightedList.{weight, dmap}
 use Rattle.gb_meaning.specs.Distributions.{restricted}
 use Rattle.gb_meaning.specs.Fractions.{Fraction}
 use Rattle.gb_meaning.specs.Meanings.{of_truth, of_number, value_in, truth, fraction_in, weights_in}

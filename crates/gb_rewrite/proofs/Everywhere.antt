@@ -17,7 +17,7 @@ use Rattle.gb_meaning.specs.Judgments.{Judge, IsFair, speaking}
 use Rattle.gb_laws.specs.Formed.{AreThree}
 use Rattle.gb_laws.proofs.Heads.{Moved, Here, At, Between}
 use Rattle.gb_laws.proofs.Judged.{SameRuns, answers_same}
-use Rattle.gb_holds.specs.Truth.{has_module}
+use Rattle.gb_meaning.specs.Truth.{has_module}
 use Rattle.gb_laws.specs.Typing.{types_of, IsHead}
 use Rattle.gb_typing.specs.Context.{Context, erased}
 use Rattle.gb_typing.specs.Fits.{IsSettingOf}

@@ -14,8 +14,8 @@ use Rattle.gb_typing.specs.Typing.{first, middle, last, IsTyped, AreTyped, IsFor
 use Rattle.gb_typing.specs.Changes.{Made}
 use Rattle.gb_typing.proofs.Made.{EachMade, made_node}
 use Rattle.gb_typing.specs.Rules.{outermost}
-use Rattle.gb_chances.specs.First.{is_quotient}
-use Rattle.gb_parts.specs.Same.{is_same}
+use Rattle.gb_steps.specs.First.{is_quotient}
+use Rattle.gb_prog.specs.Same.{is_same}
 use Rattle.gb_rewrite.specs.Rewritten.{rewritten, parts_rewritten}
 use Rattle.gb_rewrite.proofs.Inside.{typed_inside}
 use Rattle.gb_rewrite.proofs.Same.{are_one}

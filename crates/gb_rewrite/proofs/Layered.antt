@@ -10,9 +10,9 @@ use Rattle.gb_terms.specs.declared.term.Head.TheVariants as head
 use Rattle.gb_terms.specs.Make.{node}
 use Rattle.gb_goal.specs.Scope.{Declarations}
 use Rattle.gb_steps.specs.declared.step.EventLaw.{EventLaw}
-use Rattle.gb_chances.specs.Chances.{last, before_last}
-use Rattle.gb_chances.specs.First.{is_quotient, or_else}
-use Rattle.gb_chances.proofs.Parts.{last_behind, before_behind}
+use Rattle.gb_steps.specs.Chances.{last, before_last}
+use Rattle.gb_steps.specs.First.{is_quotient, or_else}
+use Rattle.gb_steps.proofs.Parts.{last_behind, before_behind}
 use Rattle.gb_meaning.specs.Commands.{terms_in}
 use Rattle.gb_laws.proofs.Trees.{out_is}
 use Rattle.gb_rewrite.specs.Events.{by_law, law_at, by_first, parts_by_first, any_by_law, list_by_law}

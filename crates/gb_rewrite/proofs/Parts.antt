@@ -4,8 +4,8 @@ use Rattle.gb_terms.specs.declared.term.Term.{Term, Term', Row_of-Term, end_of-T
 use Rattle.gb_terms.specs.Make.{node}
 use Rattle.gb_meaning.specs.Commands.{terms_in}
 use Rattle.gb_laws.proofs.Trees.{out_is}
-use Rattle.gb_chances.specs.First.{is_quotient}
-use Rattle.gb_parts.specs.Same.{is_same}
+use Rattle.gb_steps.specs.First.{is_quotient}
+use Rattle.gb_prog.specs.Same.{is_same}
 use Rattle.gb_rewrite.specs.Rewritten.{rewritten, parts_rewritten, list_rewritten, stands, stands_in_parts, stands_in_list}
 use mathlib.Core.Former.{Count}
 

@@ -5,7 +5,7 @@ use Rattle.gb_terms.specs.declared.decl.TypedName.{TypedName}
 use Rattle.gb_terms.specs.declared.term.Term.{Term, Term', Row_of-Term, end_of-Term, more_of-Term}
 use Rattle.gb_terms.specs.declared.term.Instr.{Instr, Row_of-Instr, end_of-Instr, more_of-Instr}
 use Rattle.gb_terms.specs.declared.term.Head.TheVariants.{Assign, Sample, Call', If', While'}
-use Rattle.gb_coupling.specs.WeightedList.{scale, bind, dmap}
+use Rattle.gb_dist.specs.WeightedList.{scale, bind, dmap}
 use Rattle.gb_meaning.specs.Commands.{terms_in, called, program_of}
 use Rattle.gb_meaning.specs.Meanings.{value_in, number_in, truth, weights_in}
 use Rattle.gb_meaning.specs.Memory.{Memory, write, assigned}

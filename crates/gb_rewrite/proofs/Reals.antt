@@ -17,8 +17,8 @@ use Rattle.gb_typing.specs.Rules.{outermost}
 use Rattle.gb_typing.proofs.Made.{made_node}
 use Rattle.gb_smt_laws.specs.Alike.{Alike, RespectAlike}
 use Rattle.gb_smt_laws.proofs.Alike.{alike_turned}
-use Rattle.gb_chances.specs.First.{is_quotient}
-use Rattle.gb_parts.specs.Same.{is_same}
+use Rattle.gb_steps.specs.First.{is_quotient}
+use Rattle.gb_prog.specs.Same.{is_same}
 use Rattle.gb_rewrite.specs.Rewritten.{rewritten, parts_rewritten}
 use Rattle.gb_rewrite.proofs.AtNode.{node_deep}
 use Rattle.gb_rewrite.proofs.Deep.{AreDeep, AllDeep, itself}

@@ -15,8 +15,8 @@ use Rattle.gb_typing.specs.Typing.{IsTyped}
 use Rattle.gb_typing.proofs.Sound.{sound_form}
 use Rattle.gb_typing.specs.Rules.{outermost}
 use Rattle.gb_smt_laws.specs.Alike.{Alike, RespectAlike}
-use Rattle.gb_chances.specs.First.{is_quotient}
-use Rattle.gb_parts.specs.Same.{is_same}
+use Rattle.gb_steps.specs.First.{is_quotient}
+use Rattle.gb_prog.specs.Same.{is_same}
 use Rattle.gb_rewrite.specs.Rewritten.{rewritten, list_rewritten}
 use Rattle.gb_rewrite.proofs.Kept.{rewritten_made}
 use Rattle.gb_rewrite.proofs.Moved.{IsJudgment, Preserves}

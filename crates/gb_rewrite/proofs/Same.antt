@@ -4,7 +4,7 @@ use Rattle.std.proofs.lemmas.Bool.{false≢true}
 use Rattle.std.specs.Prelude.{◌↔◌}
 use Rattle.gb_terms.specs.declared.term.Term.{Term}
 use Rattle.gb_meaning.proofs.SameTerms.{same_terms}
-use Rattle.gb_parts.specs.Same.{is_yes, is_same}
+use Rattle.gb_prog.specs.Same.{is_yes, is_same}
 
 by_decision : {A : Type 0} (b : Bool) (d : Dec A) → (IsTrue b ↔ A) → b ≡ is_yes d
 by_decision true (yes p) h = refl

@@ -14,7 +14,7 @@ use Rattle.gb_goal.specs.declared.sequent.Sequent.{Sequent}
 use Rattle.gb_steps.specs.declared.step.EventLaw.{EventLaw}
 use Rattle.gb_steps.specs.declared.step.RewriteRule.{RewriteRule}
 use Rattle.gb_steps.specs.declared.step.RewriteRule.TheVariants.{Forward, Back, Subst, Unfold, Law}
-use Rattle.gb_coupling.specs.WeightedList.{total}
+use Rattle.gb_dist.specs.WeightedList.{total}
 use Rattle.gb_meaning.specs.Names.{Name}
 use Rattle.gb_meaning.specs.Setting.{Meaning, Setting}
 use Rattle.gb_meaning.specs.State.{State}
@@ -24,12 +24,12 @@ use Rattle.gb_laws.specs.Context.{AreOf}
 use Rattle.gb_laws.specs.Finite.{IsInhabited}
 use Rattle.gb_laws.specs.Operators.{IsNoDistribution}
 use Rattle.gb_laws.specs.Typing.{OperatorType}
-use Rattle.gb_holds.specs.Declared.{Declarations, declared}
-use Rattle.gb_holds.specs.Settings.{Interpretation, setting}
-use Rattle.gb_holds.specs.Truth.{has_module, Truth}
-use Rattle.gb_holds.specs.Holds.{AreTrue, Holds, context}
-use Rattle.gb_holds.proofs.SettingTypes.{setting-types}
-use Rattle.gb_holds.proofs.Fronts.{without_modules}
+use Rattle.gb_meaning.specs.Declared.{Declarations, declared}
+use Rattle.gb_meaning.specs.Settings.{Interpretation, setting}
+use Rattle.gb_meaning.specs.Truth.{has_module, Truth}
+use Rattle.gb_meaning.specs.Holds.{AreTrue, Holds, context}
+use Rattle.gb_meaning.proofs.SettingTypes.{setting-types}
+use Rattle.gb_meaning.proofs.Fronts.{without_modules}
 use Rattle.gb_typing.specs.Context.{Context}
 use Rattle.gb_typing.specs.Typing.{IsTyped, IsForm}
 use Rattle.gb_typing.specs.Fits.{IsSettingOf, IsStateOf}

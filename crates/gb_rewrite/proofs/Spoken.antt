@@ -41,8 +41,8 @@ use Rattle.gb_typing.proofs.Literals.{bool_literal}
 use Rattle.gb_typing.proofs.Made.{made_node, node_typed, parts_typed}
 use Rattle.gb_amb.proofs.Idle.{unchanged}
 use Rattle.gb_full.specs.Loss.{Loss, nowhere, sampled, called, code_loss}
-use Rattle.gb_parts.specs.Compared.{zero as nought, one}
-use Rattle.gb_parts.proofs.Comparing.{number_made}
+use Rattle.gb_prog.specs.Compared.{zero as nought, one}
+use Rattle.gb_prog.proofs.Comparing.{number_made}
 use Rattle.gb_rewrite.specs.Events.{chance, plus, minus, either_at, either_of, negation_at, negation_of, is_false, either, whole_by, negated, divided, by_law, IsTypedLaw}
 use Rattle.gb_rewrite.proofs.Kept.{IsInside}
 

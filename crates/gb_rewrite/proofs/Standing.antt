@@ -16,7 +16,7 @@ use Rattle.gb_goal.specs.Scope.{entry_of}
 use Rattle.gb_meaning.specs.Names.{Name}
 use Rattle.gb_meaning.specs.Written.{type_of}
 use Rattle.gb_laws.specs.Plain.{IsPlain}
-use Rattle.gb_holds.specs.Declared.{Declarations, Declaration, declaration_of, declared, operator}
+use Rattle.gb_meaning.specs.Declared.{Declarations, Declaration, declaration_of, declared, operator}
 use Rattle.gb_laws.specs.Typing.{OperatorType}
 use Rattle.gb_typing.specs.Changes.{IsLeaf}
 use Rattle.gb_typing.specs.Context.{Frame, Context, frame_of}

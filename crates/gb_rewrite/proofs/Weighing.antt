@@ -6,8 +6,8 @@ use Rattle.gb_core.specs.declared.ty.Ty.{Ty}
 use Rattle.gb_core.specs.declared.ty.Ty.TheVariants as ty
 use Rattle.gb_core.specs.declared.value.Value.{Value}
 use Rattle.gb_core.specs.declared.value.Value.TheVariants.{Num}
-use Rattle.gb_coupling.specs.WeightedList.{WeightedList, total, weight}
-use Rattle.gb_coupling.proofs.Weights.{weight-false, weight-not, weight-or, weight-parts}
+use Rattle.gb_dist.specs.WeightedList.{WeightedList, total, weight}
+use Rattle.gb_dist.proofs.Weights.{weight-false, weight-not, weight-or, weight-parts}
 use Rattle.gb_terms.specs.declared.module.ProcRef.{ProcRef}
 use Rattle.gb_terms.specs.declared.op.Op.TheVariants as op
 use Rattle.gb_terms.specs.declared.op.Side.{Side}
@@ -36,8 +36,8 @@ use Rattle.gb_typing.specs.Forms.{and_form, not_form}
 use Rattle.gb_typing.specs.Rules.{outermost}
 use Rattle.gb_typing.specs.Typing.{IsTyped}
 use Rattle.gb_full.specs.Loss.{Loss, nowhere, sampled, called, code_loss}
-use Rattle.gb_parts.specs.Compared.{zero as nought, one}
-use Rattle.gb_parts.proofs.Comparing.{number_is}
+use Rattle.gb_prog.specs.Compared.{zero as nought, one}
+use Rattle.gb_prog.proofs.Comparing.{number_is}
 use Rattle.gb_smt_laws.specs.Alike.{Alike}
 use Rattle.gb_smt_laws.proofs.Alike.{of_fractions}
 use Rattle.gb_smt_laws.proofs.Fractions.{Same}

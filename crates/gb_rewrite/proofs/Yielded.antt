@@ -11,7 +11,7 @@ use Rattle.gb_terms.specs.declared.term.Head.TheViews.{out-roll-Term}
 use Rattle.gb_terms.specs.Make.{node}
 use Rattle.gb_goal.specs.Scope.{Declarations}
 use Rattle.gb_steps.specs.declared.step.EventLaw.{EventLaw}
-use Rattle.gb_chances.specs.First.{is_quotient, or_else}
+use Rattle.gb_steps.specs.First.{is_quotient, or_else}
 use Rattle.gb_meaning.specs.Commands.{terms_in}
 use Rattle.gb_meaning.specs.Judgments.{Judge, IsFair, IsSoundForm, AllSound}
 use Rattle.gb_meaning.specs.Setting.{Setting}

@@ -14,11 +14,11 @@ use Rattle.gb_goal.specs.Goal.Code.{procedure}
 use Rattle.gb_goal.specs.Scope.{Declarations}
 use Rattle.gb_steps.specs.declared.step.EventLaw.{EventLaw}
 use Rattle.gb_steps.specs.declared.step.EventLaw.TheVariants as law
-use Rattle.gb_chances.specs.Chances.{last, before_last}
-use Rattle.gb_chances.specs.First.{is_quotient, or_else}
+use Rattle.gb_steps.specs.Chances.{last, before_last}
+use Rattle.gb_steps.specs.First.{is_quotient, or_else}
 use Rattle.gb_meaning.specs.Commands.{terms_in}
 use Rattle.gb_mods.specs.Called.{same_procedure}
-use Rattle.gb_parts.specs.Compared.{zero as nought, one}
+use Rattle.gb_prog.specs.Compared.{zero as nought, one}
 use Rattle.gb_typing.specs.Context.{Context, with_own}
 use Rattle.gb_typing.specs.Context as context
 use Rattle.gb_typing.specs.Forms.{and_form, not_form}

@@ -3,9 +3,9 @@ use Rattle.std.specs.Prelude.{Bool, true, false, ◌||◌, if◌then◌else◌, 
 use Rattle.std.specs.List.{list_any}
 use Rattle.gb_terms.specs.declared.term.Term.{Term, Term', Row_of-Term, end_of-Term, more_of-Term, end_of-Head, more_of-Head}
 use Rattle.gb_terms.specs.Make.{node}
-use Rattle.gb_chances.specs.First.{is_quotient}
+use Rattle.gb_steps.specs.First.{is_quotient}
 use Rattle.gb_meaning.specs.Commands.{terms_in}
-use Rattle.gb_parts.specs.Same.{is_same}
+use Rattle.gb_prog.specs.Same.{is_same}
 
 abbrev mutual
   -- A term with b in place of each a. Divisors stay as they are, and so do the programs of judgments, which stand in heads.

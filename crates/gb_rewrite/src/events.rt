@@ -8,14 +8,14 @@ ghost use Rattle.gb_full.specs.Loss.{code_loss};
 ghost use Rattle.gb_rewrite.specs.Events.{any_by_law, by_first, by_law, chance, divided, either, either_of, first_by_law, is_false, law_at, minus, negated, negation_of, plus, whole_by};
 
 use crate::rewritten::{before, with_args};
-use gb_chances::first::is_quotient;
 use gb_core::Shared;
 use gb_core::ty::Ty;
 use gb_core::value::Value;
 use gb_full::loss::{Loss, subject_loss};
 use gb_goal::scope::Scope;
 use gb_mods::called::same_procedure;
-use gb_parts::compared::number;
+use gb_prog::compared::number;
+use gb_steps::first::is_quotient;
 use gb_steps::step::EventLaw;
 use gb_terms::make::{binary, boolean, conjunction, negation, term};
 use gb_terms::module::ProcRef;

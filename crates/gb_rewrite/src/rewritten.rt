@@ -4,11 +4,11 @@ ghost use Rattle.std.specs.Prelude.{◌≡◌, ◌∷◌, map, IfOk};
 ghost use Rattle.std.specs.List.{list_any};
 ghost use Rattle.gb_terms.specs.declared.term.Term.{out-Term};
 ghost use Rattle.gb_terms.specs.Make.{node};
-ghost use Rattle.gb_parts.specs.Same.{is_same};
+ghost use Rattle.gb_prog.specs.Same.{is_same};
 ghost use Rattle.gb_rewrite.specs.Rewritten.{first_rewritten, rewritten, stands, stands_first};
 
-use gb_chances::first::is_quotient;
 use gb_core::SharedItems;
+use gb_steps::first::is_quotient;
 use gb_terms::same::same;
 use gb_terms::term::{Term, Terms};
 use sqlite_items::Items;

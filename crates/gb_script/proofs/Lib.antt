@@ -1,3 +1,15 @@
+pub mod Tests
+pub mod Sets
+pub mod Places
+pub mod Sound
+pub mod Rows
+pub mod Bodies
+pub mod Steps
+pub mod Words
+pub mod Turns
+pub mod Whole
+pub mod Unique
+pub mod Outcomes
 pub mod Attach
 pub mod Stacks
 pub mod Frame

@@ -1,3 +1,7 @@
+pub mod Grammar
+pub mod Check
+pub mod Stack
+pub mod Parsing
 pub mod Text
 pub mod Head
 pub mod Tree

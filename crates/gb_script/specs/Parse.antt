@@ -1,9 +1,9 @@
 -- Parses as data: what is chosen for each part of some symbols, with the tokens, steps and values that follow.
 use Rattle.std.specs.Prelude.{◌≡◌, ℕ, ◌+◌, List, [], ◌∷◌, ◌++◌, length}
-use Rattle.gb_grammar.specs.declared.table.Step.{Step}
-use Rattle.gb_grammar.specs.declared.table.Symbol.{Symbol}
-use Rattle.gb_grammar.specs.declared.table.Symbol.TheVariants.{Token, Part}
-use Rattle.gb_grammar.specs.Grammar.{Grammar, Production, IsProduction, step}
+use Rattle.gb_script.specs.declared.table.Step.{Step}
+use Rattle.gb_script.specs.declared.table.Symbol.{Symbol}
+use Rattle.gb_script.specs.declared.table.Symbol.TheVariants.{Token, Part}
+use Rattle.gb_script.specs.Grammar.{Grammar, Production, IsProduction, step}
 use Rattle.gb_script.specs.declared.action.Rule.{Rule}
 use Rattle.gb_script.specs.declared.text.Text.{Text}
 use Rattle.gb_script.specs.declared.value.Value.{Value}

@@ -1,6 +1,6 @@
 -- What is known of steps of which a tree is built.
 use Rattle.std.specs.Prelude.{ℕ, List}
-use Rattle.gb_grammar.specs.Grammar.{Grammar}
+use Rattle.gb_script.specs.Grammar.{Grammar}
 use Rattle.gb_script.specs.declared.action.Rule.{Rule}
 use Rattle.gb_script.specs.Sorts.{Language, Sort, ValueSort}
 

@@ -1,6 +1,6 @@
 -- What the steps of a derivation build is well-sorted.
 use Rattle.std.specs.Prelude.{◌≡◌, List, ◌++◌}
-use Rattle.gb_grammar.specs.declared.table.Step.{Step}
+use Rattle.gb_script.specs.declared.table.Step.{Step}
 use Rattle.gb_script.specs.declared.action.Rule.{Rule}
 use Rattle.gb_script.specs.declared.text.Text.{Text}
 use Rattle.gb_script.specs.declared.value.Value.{Value}

@@ -4,9 +4,9 @@
 use Rattle.std.specs.Prelude.{◌≡◌, ℕ, Bool, true, false, not, ◌&&◌, nat_eq, List, [], ◌∷◌, Some, slice_get, take}
 use Rattle.std.specs.List.{list_all}
 use Rattle.gb_core.specs.declared.place.Place.{Place}
-use Rattle.gb_grammar.specs.declared.table.Symbol.{Symbol}
-use Rattle.gb_grammar.specs.declared.table.Symbol.TheVariants.{Token, Part}
-use Rattle.gb_grammar.specs.Grammar.{Grammar}
+use Rattle.gb_script.specs.declared.table.Symbol.{Symbol}
+use Rattle.gb_script.specs.declared.table.Symbol.TheVariants.{Token, Part}
+use Rattle.gb_script.specs.Grammar.{Grammar}
 use Rattle.gb_script.specs.declared.action.Action.{Action}
 use Rattle.gb_script.specs.declared.action.Action.TheVariants.{Make, Enclose, Spell, Graft, Flat, Extend, Lead, Attach}
 use Rattle.gb_script.specs.declared.action.Rule.{Rule}

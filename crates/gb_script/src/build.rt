@@ -8,12 +8,12 @@ ghost use Rattle.gb_script.specs.Value.{part_of as part_for, flattened, trees_of
 
 use crate::action::{Action, Rule};
 use crate::head::Head;
+use crate::table::Step;
 use crate::text::{Text, name_at, place_at, place_before};
 use crate::tree::{Node, attached};
 use crate::value::{Value, part_of};
 use gb_core::Stack;
 use gb_core::place::Place;
-use gb_grammar::table::Step;
 use sqlite_items::Items;
 use std::alloc::{AllocError, Global};
 

@@ -2,12 +2,12 @@
 
 ghost use Rattle.std.specs.Prelude.{◌≡◌, ℕ, List, [], ◌∷◌, length, true};
 ghost use Rattle.std.specs.List.{All};
-ghost use Rattle.gb_grammar.specs.declared.table.Step.{Step};
-ghost use Rattle.gb_grammar.specs.declared.table.Symbol.{Symbol as AnySymbol};
-ghost use Rattle.gb_grammar.specs.declared.table.Symbol.TheVariants.{Part};
-ghost use Rattle.gb_grammar.specs.Grammar.{Grammar, Derives, grammar_of};
-ghost use Rattle.gb_grammar.specs.Check.{Claims, grammar_ok, is_start};
-ghost use Rattle.gb_grammar.specs.Reading.{Spells, IsKind};
+ghost use Rattle.gb_script.specs.declared.table.Step.{Step};
+ghost use Rattle.gb_script.specs.declared.table.Symbol.{Symbol as AnySymbol};
+ghost use Rattle.gb_script.specs.declared.table.Symbol.TheVariants.{Part};
+ghost use Rattle.gb_script.specs.Grammar.{Grammar, Derives, grammar_of};
+ghost use Rattle.gb_script.specs.Check.{Claims, grammar_ok, is_start};
+ghost use Rattle.gb_script.specs.Parsing.{Spells, IsKind};
 ghost use Rattle.gb_script.specs.declared.action.Rule.{Rule as AnyRule};
 ghost use Rattle.gb_script.specs.declared.text.Text.{Text as AnyText};
 ghost use Rattle.gb_script.specs.declared.tree.Node.{Node as AnyNode};
@@ -20,7 +20,7 @@ ghost use Rattle.gb_script.specs.Acts.{sorts_ok, sorts_of};
 ghost use Rattle.gb_script.specs.Sorted.{BuildsSorts};
 
 use crate::action::Rule;
-use gb_grammar::table::{Row, Symbol};
+use crate::table::{Row, Symbol};
 
 /// The steps of a derivation build as many values as its symbols have, and leave what the steps behind them build.
 pub fn derivations_frame()

@@ -1,8 +1,8 @@
 // The leaves of a tree are those of its text.
 
 ghost use Rattle.std.specs.Prelude.{◌≡◌, ℕ, List, true};
-ghost use Rattle.gb_grammar.specs.declared.table.Step.{Step};
-ghost use Rattle.gb_grammar.specs.Grammar.{Grammar};
+ghost use Rattle.gb_script.specs.declared.table.Step.{Step};
+ghost use Rattle.gb_script.specs.Grammar.{Grammar};
 ghost use Rattle.gb_script.specs.declared.action.Rule.{Rule};
 ghost use Rattle.gb_script.specs.declared.head.Head.{Head};
 ghost use Rattle.gb_script.specs.declared.text.Text.{Text};

@@ -1,7 +1,7 @@
 // The tree of a text.
 
 ghost use Rattle.std.specs.Prelude.{◌≡◌, [], ◌∷◌, true, IfOk};
-ghost use Rattle.gb_grammar.specs.Reading.{Spells};
+ghost use Rattle.gb_script.specs.Parsing.{Spells};
 ghost use Rattle.gb_script.specs.declared.value.Value.TheVariants.{Tree};
 ghost use Rattle.gb_script.specs.Build.{built};
 ghost use Rattle.gb_script.specs.Reading.{Derivation};
@@ -10,10 +10,10 @@ ghost use Rattle.gb_script.specs.Acts.{sorts_ok};
 
 use crate::action::Rule;
 use crate::build::built;
+use crate::table::Step;
 use crate::text::Text;
 use crate::tree::Node;
 use crate::value::Value;
-use gb_grammar::table::Step;
 use std::alloc::{AllocError, Global};
 
 /// The tree that steps build which derive a text of a part whose trees are of a sort.

@@ -8,7 +8,7 @@ use Rattle.gb_core.specs.declared.refusal.Refused.TheVariants.{NoMemory, ReadFau
 use Rattle.gb_core.specs.declared.refusal.Why.{Why}
 use Rattle.gb_core.specs.declared.refusal.Why.TheVariants.{TooMany}
 use Rattle.gb_goal.specs.Answers.Answer.{given, refused}
-use Rattle.gb_shapes.specs.declared.place.Enumeration.{Enumeration}
+use Rattle.gb_print_names.specs.declared.bound_names.Enumeration.{Enumeration}
 use Rattle.gb_script.specs.declared.tree.Node.{Node}
 use Rattle.gb_script.specs.Tree.{head_of, parts_of, place_of}
 use Rattle.gb_state.specs.declared.state.State.{State}

@@ -1,7 +1,7 @@
 -- What stood before, as it is kept.
 use Rattle.std.proofs.Common.{◌≡◌, ℕ, zero, suc, ◌+◌, ◌-◌, ◌<◌, Bool, true, false, List, [], ◌∷◌, length, take, Some, None, refl, ap, sym, subst, ◌∙◌, arith}
 use Rattle.gb_goal.specs.Scope.{Declarations}
-use Rattle.gb_shapes.specs.declared.place.Enumeration.{Enumeration}
+use Rattle.gb_print_names.specs.declared.bound_names.Enumeration.{Enumeration}
 use Rattle.gb_state.specs.declared.state.State.{State}
 use Rattle.gb_state.specs.Opened.{is_undeclared}
 use Rattle.gb_session.specs.History.{Stage, History, back_to, has_earlier, undone}

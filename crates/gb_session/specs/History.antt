@@ -1,6 +1,6 @@
 -- Sessions, as what stood before and after each of their commands.
 use Rattle.std.specs.Prelude.{ℕ, zero, suc, Bool, true, false, List, [], ◌∷◌, if◌then◌else◌}
-use Rattle.gb_shapes.specs.declared.place.Enumeration.{Enumeration}
+use Rattle.gb_print_names.specs.declared.bound_names.Enumeration.{Enumeration}
 use Rattle.gb_theory.specs.Built.{Session, fresh_session}
 
 -- what commands built, and the enumerations that they declared, each with its constants

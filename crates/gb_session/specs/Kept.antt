@@ -1,6 +1,6 @@
 -- What is kept of each command, and what stood before it.
 use Rattle.std.specs.Prelude.{List, [], ◌∷◌, take, option_map}
-use Rattle.gb_shapes.specs.declared.place.Enumeration.{Enumeration}
+use Rattle.gb_print_names.specs.declared.bound_names.Enumeration.{Enumeration}
 use Rattle.gb_state.specs.declared.state.State.{State}
 use Rattle.gb_theory.specs.Sessions.{session_of, open_of}
 use Rattle.gb_session.specs.History.{Stage}

@@ -2,7 +2,7 @@
 use Rattle.std.specs.Prelude.{ℕ, List, [], ◌∷◌, ◌++◌, length, codes, Option, Some, None}
 use Rattle.std.specs.Fmt.{decimal}
 use Rattle.gb_goal.specs.declared.sequent.Sequent.{Sequent}
-use Rattle.gb_print_text.specs.Goals.{printed_goal}
+use Rattle.gb_print.specs.GoalText.{printed_goal}
 use Rattle.gb_state.specs.declared.state.Claim.{Claim}
 use Rattle.gb_state.specs.Opened.{in_context}
 use Rattle.gb_theory.specs.Built.{OpenProof}

@@ -5,9 +5,9 @@ ghost use Rattle.gb_script.specs.Tree.{text_of, head_of, parts_of};
 ghost use Rattle.gb_session.specs.Commands.{enumeration, enumerated};
 
 use gb_core::name::Names;
+use gb_print_names::bound_names::Enumeration;
 use gb_script::head::Head;
 use gb_script::tree::Node;
-use gb_shapes::place::Enumeration;
 use sqlite_items::Items;
 use std::alloc::{AllocError, Global};
 

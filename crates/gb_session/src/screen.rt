@@ -8,7 +8,7 @@ ghost use Rattle.gb_session.specs.Kept.{stage_of};
 ghost use Rattle.gb_session.specs.Screen.{shown_of, first_goal, screen_in, screen_of};
 
 use gb_print::goal::print_goal;
-use gb_shapes::place::Enumeration;
+use gb_print_names::bound_names::Enumeration;
 use gb_state::state::{OpenProof, State};
 use std::alloc::{AllocError, Global};
 

@@ -56,7 +56,7 @@ use Rattle.gb_adv.specs.Proc as procedures_of
 use Rattle.gb_adv.specs.Proc.{end_alike, one_goals, proc_row, start_alike}
 use Rattle.gb_adv.specs.Returns.{Returns, after_where, inside_result, of_returns, oracle_writes, owner_changes, owner_of, reads_owner, reads_returned, result_changes, values}
 use Rattle.gb_adv.specs.Rows.{abstract_row}
-use Rattle.gb_shapes.specs.declared.place.Enumeration.{Enumeration}
+use Rattle.gb_print_names.specs.declared.bound_names.Enumeration.{Enumeration}
 use Rattle.gb_print.specs.Written.{is_path, is_variable_here, IsWrittenProcedure}
 use Rattle.gb_shown.specs.Named.{IsNamedType, IsNamed, IsNamedGoal}
 use Rattle.gb_shown.specs.Rules.{AreNamedGlobals, AreNamedProcedures, HasNamedTypes, IsNamedKept, KeepsNames}

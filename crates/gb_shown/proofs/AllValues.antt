@@ -14,7 +14,7 @@ use Rattle.gb_walk.specs.Change.{term_changed}
 use Rattle.gb_prog.specs.AllValues.{Located, in_memory, for_all, to_bound_values, all_values}
 use Rattle.gb_prog.specs.Writes.{TypedVariable}
 use Rattle.gb_loops.specs.Read.{reads_itself, first_of, type_read, each_type, typed_before, read_among, read_in}
-use Rattle.gb_shapes.specs.declared.place.Enumeration.{Enumeration}
+use Rattle.gb_print_names.specs.declared.bound_names.Enumeration.{Enumeration}
 use Rattle.gb_shown.specs.Named.{IsNamedType, IsNamedHead, IsNamed, AreNamed}
 use Rattle.gb_shown.proofs.SpeltTrees.{node_named}
 use Rattle.gb_shown.proofs.Changed.{PutNamed, changed_named}

@@ -10,7 +10,7 @@ use Rattle.gb_goal.specs.Goal.{goal_of}
 use Rattle.gb_goal.specs.Rows.{Row, stepped}
 use Rattle.gb_goal.specs.Scope as scope
 use Rattle.gb_goal.specs.declared.sequent.Sequent.{Sequent}
-use Rattle.gb_holds.specs.Declared.{Declarations}
+use Rattle.gb_meaning.specs.Declared.{Declarations}
 use Rattle.gb_steps.specs.declared.step.Acts.{Acts}
 use Rattle.gb_steps.specs.declared.step.Acts.TheVariants as acts
 use Rattle.gb_steps.specs.declared.step.BodyRule.{BodyRule}
@@ -29,7 +29,7 @@ use Rattle.gb_linear.specs.Closing.{compared, all_assumed, allowed, rest, is_clo
 use Rattle.gb_linear.specs.Forms.{is_constant}
 use Rattle.gb_linear.specs.declared.forms.LinearForm.{LinearForm}
 use Rattle.gb_theory.specs.Commands.{closed_unless, entering, entered, OnBoth, on_guard, transformed, Applied}
-use Rattle.gb_shapes.specs.declared.place.Enumeration.{Enumeration}
+use Rattle.gb_print_names.specs.declared.bound_names.Enumeration.{Enumeration}
 use Rattle.gb_shown.specs.Named.{IsNamedSequent}
 use Rattle.gb_shown.specs.Rules.{AreNamedArguments, AreNamedGlobals, AreNamedOperators, AreNamedProcedures, IsNamedRelational, IsNamedRule, KeepsNames}
 use Rattle.gb_shown.proofs.AbstractCalls.{abstract_keep}

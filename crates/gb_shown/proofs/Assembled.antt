@@ -10,13 +10,13 @@ use Rattle.gb_goal.specs.Answers.Answer.{given}
 use Rattle.gb_goal.specs.Scope as scope
 use Rattle.gb_goal.specs.declared.sequent.Sequent.{Sequent}
 use Rattle.gb_steps.specs.declared.step.Rule.{Rule}
-use Rattle.gb_holds.specs.Declared.{Declarations, declared}
+use Rattle.gb_meaning.specs.Declared.{Declarations, declared}
 use Rattle.gb_typing.specs.Context.{Context}
 use Rattle.gb_typing.specs.Programs.{EachStatement}
 use Rattle.gb_typing.specs.Scopes.{context_of}
 use Rattle.gb_typing.specs.Sequents.{IsTypedSequent}
-use Rattle.gb_shapes.specs.declared.place.Enumeration.{Enumeration}
-use Rattle.gb_print_text.specs.Goals.{place_of_goal, printed_goal}
+use Rattle.gb_print_names.specs.declared.bound_names.Enumeration.{Enumeration}
+use Rattle.gb_print.specs.GoalText.{place_of_goal, printed_goal}
 use Rattle.gb_print.specs.Goals.{IsGoalReadAs}
 use Rattle.gb_shown.specs.Named.{IsNamedInstr, IsNamedSequent}
 use Rattle.gb_shown.proofs.SpeltForms.{as_result}
@@ -33,7 +33,7 @@ use Rattle.gb_shown.proofs.OfForms.{OfForms}
 use Rattle.gb_shown.proofs.Lemmas.{statement_is_named}
 use Rattle.gb_shown.proofs.Members.{module_named}
 use Rattle.gb_shown.proofs.Rules.{step_named}
-use Rattle.gb_variants.specs.Variants.{goals_of}
+use Rattle.gb_loops.specs.Variants.{goals_of}
 use Rattle.gb_theory.specs.Commands.{Applied}
 use Rattle.gb_theory.specs.Outcome.{IsReadAs}
 use Rattle.gb_shown.proofs.Declared.{entries_named}

@@ -19,15 +19,15 @@ use Rattle.gb_goal.specs.Rows.{refusing}
 use Rattle.gb_goal.specs.Scope.{Declarations}
 use Rattle.gb_goal.specs.declared.sequent.Sequent.{Sequent}
 use Rattle.gb_typing.proofs.Given.{refused_at, refused_given, same_given}
-use Rattle.gb_parts.specs.OneBody.{OneBody}
+use Rattle.gb_prog.specs.OneBody.{OneBody}
 use Rattle.gb_amb.specs.Quantified.{goal_quantifies_modules}
 use Rattle.gb_call_both.specs.OneSide.{speaks}
 use Rattle.gb_trans.specs.Places.{At, statement_at}
-use Rattle.gb_premises.specs.Decided.{deciding}
-use Rattle.gb_guards.specs.Decided.{Decision, decision}
-use Rattle.gb_beside.specs.Beside.{other, beside, memory_name, names_around, known_beside, by_decision, at_place, on_body, one_of_two, beside_answer}
-use Rattle.gb_shapes.specs.declared.place.Enumeration.{Enumeration}
-use Rattle.gb_shapes.specs.Names.{Name, is_among}
+use Rattle.gb_forms.specs.Decided.{deciding}
+use Rattle.gb_trans.specs.Decided.{Decision, decision}
+use Rattle.gb_trans.specs.Beside.{other, beside, memory_name, names_around, known_beside, by_decision, at_place, on_body, one_of_two, beside_answer}
+use Rattle.gb_print_names.specs.declared.bound_names.Enumeration.{Enumeration}
+use Rattle.gb_print_names.specs.BoundNames.{Name, is_among}
 use Rattle.gb_print_names.specs.Occurring.{judgment_locals}
 use Rattle.gb_print.specs.Written.{is_name_text}
 use Rattle.gb_shown.specs.Named.{IsNamedGoal, IsNamedSequent}

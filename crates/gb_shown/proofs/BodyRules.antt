@@ -47,7 +47,7 @@ use Rattle.gb_elab_mod.specs.Occurring.{occurring}
 use Rattle.gb_elab_mod.specs.OnPrograms.{of_subjects, of_head, outcomes, sampled, last_sampled, functions, there_and_back, one_type, couplings, judges_chance, coupling_rule, functions_of, is_apply, drawing_rule, cut_rule, seq_rule, of_bodies_rule, said_of_bodies, case_by, case_of_bodies, kept_by, while_rule, params_if, result_if, locals_before, locals_after, term_if, said_anew, conseq_of, conseq_rule}
 use Rattle.gb_elab_mod.specs.Steps.{formed, case_of_conclusion, sided_case_rule}
 use Rattle.gb_elab_laws.proofs.Given.{given_bind, given_is, none_some, same_some}
-use Rattle.gb_shapes.specs.declared.place.Enumeration.{Enumeration}
+use Rattle.gb_print_names.specs.declared.bound_names.Enumeration.{Enumeration}
 use Rattle.gb_print.specs.Written.{is_path}
 use Rattle.gb_shown.specs.Named.{IsNamedType, IsNamedSubject, IsNamedHead, IsNamed, IsNamedInstr, IsNamedCode, IsNamedGoal, IsNamedSequent}
 use Rattle.gb_shown.specs.Rules.{AreNamedArguments, IsNamedIfAny, IsNamedRule}

@@ -23,8 +23,8 @@ use Rattle.gb_goal.specs.declared.sequent.Sequent.{Sequent}
 use Rattle.gb_typing.proofs.Given.{refused_at, refused_given, same_given}
 use Rattle.gb_prog.specs.AllValues.{in_memory, to_bound_values}
 use Rattle.gb_prog.specs.Writes.{TypedVariable}
-use Rattle.gb_parts.specs.Assigned.{taken}
-use Rattle.gb_parts.specs.OneBody.{OneBody}
+use Rattle.gb_prog.specs.Assigned.{taken}
+use Rattle.gb_prog.specs.OneBody.{OneBody}
 use Rattle.gb_full.specs.Loss.{Loss}
 use Rattle.gb_full.specs.Lossless.{full}
 use Rattle.gb_call.specs.Call.{Callee, outcome, left_of, callee_of}
@@ -34,9 +34,9 @@ use Rattle.gb_call.specs.Written.{with_types}
 use Rattle.gb_call_both.specs.BothOutcomes.{of_both_arguments, result_of, globals_of, bound_of_both, left_side_of, left_sides, of_both_returns, after_both_where, after_both}
 use Rattle.gb_call_both.specs.Call.{before_both, both_goals, by_both_globals, clash_after_both, of_callees, on_programs, call_row}
 use Rattle.gb_call_both.specs.OneSide.{speaks, on_side, unless_speaking, judged, lost, side_goals, by_side_globals, where_full, of_side_callee, of_body, on_one_side}
-use Rattle.gb_call_known.specs.Known as known
-use Rattle.gb_call_known.specs.Known.{contract, by_chances, by_conditions, behind, behind_first}
-use Rattle.gb_shapes.specs.declared.place.Enumeration.{Enumeration}
+use Rattle.gb_call_both.specs.Known as known
+use Rattle.gb_call_both.specs.Known.{contract, by_chances, by_conditions, behind, behind_first}
+use Rattle.gb_print_names.specs.declared.bound_names.Enumeration.{Enumeration}
 use Rattle.gb_shown.specs.Named.{IsNamed, IsNamedGoal, IsNamedSequent}
 use Rattle.gb_shown.specs.Rules.{AreNamedProcedures, AreNamedGlobals, IsNamedContract, IsNamedIfAny, KeepsNames}
 use Rattle.gb_shown.proofs.SpeltTrees.{node_named}

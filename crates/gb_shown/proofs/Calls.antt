@@ -15,7 +15,7 @@ use Rattle.gb_elab.specs.Forms.{elaborated}
 use Rattle.gb_elab_stmt.specs.Calls.{enough, takes, arguments, call_of, in_last, call}
 use Rattle.gb_elab_stmt.specs.Targets.{variables_of}
 use Rattle.gb_elab_laws.proofs.Given.{given_bind, given_is}
-use Rattle.gb_shapes.specs.declared.place.Enumeration.{Enumeration}
+use Rattle.gb_print_names.specs.declared.bound_names.Enumeration.{Enumeration}
 use Rattle.gb_print.specs.Written.{is_target_here}
 use Rattle.gb_shown.specs.Named.{IsNamedInstr, IsNamedVariable, IsNamedType}
 use Rattle.gb_shown.proofs.SpeltForms.{as_result}

@@ -22,15 +22,15 @@ use Rattle.gb_mods.specs.Exclusions.{exclusions}
 use Rattle.gb_typing.specs.Samplings.{Sampling, last_sampling}
 use Rattle.gb_typing.specs.Supports.{nearest}
 use Rattle.gb_typing.proofs.Given.{refused_given, same_given}
-use Rattle.gb_parts.specs.Compared as real
-use Rattle.gb_parts.specs.Compared.{literal}
+use Rattle.gb_prog.specs.Compared as real
+use Rattle.gb_prog.specs.Compared.{literal}
 use Rattle.gb_full.specs.Loss.{Loss, nowhere, sampled, called, first_loss, code_loss}
 use Rattle.gb_equiv.specs.Drawn.{clashing}
 use Rattle.gb_full.specs.Lossless.{full, of_rest}
 use Rattle.gb_phoare.specs.Hoare.{never, at_most_goals, at_least_goals, exactly, hoare_row}
 use Rattle.gb_phoare.specs.Rnd.{measured, without_sampling, unless_clash, by_end, rnd_row}
 use Rattle.gb_phoare.specs.Rows.{chance_row}
-use Rattle.gb_shapes.specs.declared.place.Enumeration.{Enumeration}
+use Rattle.gb_print_names.specs.declared.bound_names.Enumeration.{Enumeration}
 use Rattle.gb_shown.specs.Named.{IsNamed, IsNamedCode, IsNamedGoal}
 use Rattle.gb_shown.specs.Rules.{KeepsNames}
 use Rattle.gb_shown.proofs.SpeltTrees.{node_named}

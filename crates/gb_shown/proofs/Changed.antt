@@ -20,7 +20,7 @@ use Rattle.gb_laws.proofs.Changing.{kept_at, arguments_of}
 use Rattle.gb_laws.proofs.Forms.{procedure_stays}
 use Rattle.gb_laws.proofs.Leading.{OnSome, read_found_each, bound_found_each}
 use Rattle.gb_laws.proofs.Lookups.{each_filter, each_map}
-use Rattle.gb_shapes.specs.declared.place.Enumeration.{Enumeration}
+use Rattle.gb_print_names.specs.declared.bound_names.Enumeration.{Enumeration}
 use Rattle.gb_shown.specs.Named.{IsNamedResult, IsNamedSubject, IsNamedHead, IsNamed, AreNamed}
 use Rattle.gb_shown.proofs.SpeltTrees.{AllNamed, node_named, raised_named}
 use mathlib.Core.Former.{Count}

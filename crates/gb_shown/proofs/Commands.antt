@@ -19,14 +19,14 @@ use Rattle.gb_elab_prog.specs.Entries.{entries_given}
 use Rattle.gb_elab_prog.specs.Modules.{module_given}
 use Rattle.gb_elab_mod.specs.Lemmas.{statement_given}
 use Rattle.gb_elab_laws.proofs.Given.{given_bind, given_is, if_given}
-use Rattle.gb_shapes.specs.declared.place.Enumeration.{Enumeration}
+use Rattle.gb_print_names.specs.declared.bound_names.Enumeration.{Enumeration}
 use Rattle.gb_print.specs.Written.{is_path}
 use Rattle.gb_shown.specs.Named.{IsNamedSequent}
 use Rattle.gb_shown.proofs.Sequents.{all_append}
-use Rattle.gb_variants.specs.Operand.{Found, operand}
+use Rattle.gb_loops.specs.Operand.{Found, operand}
 use Rattle.gb_typing.specs.Programs.{locals_of}
 use Rattle.gb_typing.proofs.Located.{typed_there}
-use Rattle.gb_variants.specs.Variants.{goals_of, over_none, zero_of}
+use Rattle.gb_loops.specs.Variants.{goals_of, over_none, zero_of}
 use Rattle.gb_shown.specs.Scopes.{IsNamedScope}
 use Rattle.gb_shown.specs.Words.{HasItsNames, IsReadNode, IsReadTree}
 use Rattle.gb_shown.proofs.FoundInScopes.{found_written, names_found}

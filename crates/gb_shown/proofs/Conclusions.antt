@@ -29,7 +29,7 @@ use Rattle.gb_goal.specs.Goal.Goal.{hoare, phoare, equiv, ambient}
 use Rattle.gb_goal.specs.declared.sequent.Sequent.{Sequent}
 use Rattle.gb_steps.specs.declared.step.AmbientRule.{AmbientRule}
 use Rattle.gb_steps.specs.declared.step.AmbientRule.TheVariants.{Split, Left, Right, Assumption, Case, Have, Introduce, IntroduceMemory, Discard, Unpack, Branch, Witness, WitnessMemory, Trivial, Done}
-use Rattle.gb_holds.specs.Declared.{Declarations}
+use Rattle.gb_meaning.specs.Declared.{Declarations}
 use Rattle.gb_typing.specs.Context.{Context}
 use Rattle.gb_typing.specs.Forms.{implies_form, not_form}
 use Rattle.gb_typing.specs.Goals.{IsGoalOver}
@@ -43,7 +43,7 @@ use Rattle.gb_amb.specs.Parts.{at_most_form, bounded_at, by_premise, by_shape, c
 use Rattle.gb_amb.specs.Quantified.{goal_quantifies_modules, quantifies_modules}
 use Rattle.gb_amb.specs.Steps.{IsAnswer, assuming, by_cases}
 use Rattle.gb_amb.specs.Witness.{at_memory, memory_witnessed_at, witnessed_at}
-use Rattle.gb_shapes.specs.declared.place.Enumeration.{Enumeration}
+use Rattle.gb_print_names.specs.declared.bound_names.Enumeration.{Enumeration}
 use Rattle.gb_print.specs.Written.{is_name_text}
 use Rattle.gb_shown.specs.Named.{IsNamedHead, IsNamed, IsNamedGoal, IsNamedVariable, IsNamedHyp, IsNamedSequent}
 use Rattle.gb_shown.specs.Rules.{IsNamedStep}

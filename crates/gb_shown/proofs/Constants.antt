@@ -32,9 +32,9 @@ use Rattle.gb_operators.specs.Drawn.{uniform}
 use Rattle.gb_operators.specs.Kinds.{entries, entries_layer, inside_option, is_small, option_layer, outcome}
 use Rattle.gb_operators.specs.Literals.{as_whole, holds, holds_layer, number, numeral}
 use Rattle.gb_operators.specs.Operators.{part_wanted}
-use Rattle.gb_shapes.specs.declared.place.Enumeration.{Enumeration}
+use Rattle.gb_print_names.specs.declared.bound_names.Enumeration.{Enumeration}
 use Rattle.gb_print_names.specs.Names.{constants}
-use Rattle.gb_print_text.specs.Layout as layout
+use Rattle.gb_print.specs.Layout as layout
 use Rattle.gb_print.specs.Written.{in_range, is_name_there, is_path_there, is_numeral_here, is_word_here, IsWrittenType, IsWrittenLiteral}
 use Rattle.gb_shown.specs.Named.{IsNamedType, IsNamed}
 use Rattle.gb_shown.proofs.SpeltTrees.{node_named}

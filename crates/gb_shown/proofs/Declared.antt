@@ -32,7 +32,7 @@ use Rattle.gb_elab_prog.specs.Operators.{operator_entry}
 use Rattle.gb_elab_prog.specs.Procedures.{formals, result_type}
 use Rattle.gb_elab_prog.specs.Types.{only, new, constants as declared_constants, without, enumeration as declared_enumeration, enumeration_type, type_entries}
 use Rattle.gb_elab_laws.proofs.Given.{given_bind, given_is, if_refused, some_given}
-use Rattle.gb_shapes.specs.declared.place.Enumeration.{Enumeration}
+use Rattle.gb_print_names.specs.declared.bound_names.Enumeration.{Enumeration}
 use Rattle.gb_print_names.specs.Names.{constants}
 use Rattle.gb_print.specs.Written.{is_name_text, is_name_there, is_path, is_path_there, is_word_here}
 use Rattle.gb_print.specs.Written as w

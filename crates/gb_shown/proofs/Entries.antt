@@ -22,7 +22,7 @@ use Rattle.gb_elab_prog.specs.Contexts.{nothing_around, nothing_bound, taken}
 use Rattle.gb_elab_prog.specs.Operators.{of_body, parameters, all_parameters, written, body, defined, undefined, operator_entry}
 use Rattle.gb_elab_prog.specs.Sizes.{small}
 use Rattle.gb_elab_laws.proofs.Given.{given_bind, given_is, if_refused}
-use Rattle.gb_shapes.specs.declared.place.Enumeration.{Enumeration}
+use Rattle.gb_print_names.specs.declared.bound_names.Enumeration.{Enumeration}
 use Rattle.gb_shown.specs.Named.{IsNamed, IsNamedType}
 use Rattle.gb_shown.proofs.SpeltForms.{as_result}
 use Rattle.gb_shown.proofs.Sequents.{all_append}

@@ -30,7 +30,7 @@ use Rattle.gb_names.specs.Names.{ModuleVariable, global_in, global_variable, pat
 use Rattle.gb_names.specs.Wanted.{truth, type_of_term}
 use Rattle.gb_elab.specs.Equalities.{equalities, equality, equation, equation_of, joined, with_equalities}
 use Rattle.gb_elab.specs.Globs.{Seen, agreed, agreement, agreement_on, agreements, agrees, as_value, behind_if, global_named, owner, same_globals, true_if_none, two_owners, whole_agrees, whole_equation, whole_read, whole_value, with_agreement}
-use Rattle.gb_shapes.specs.declared.place.Enumeration.{Enumeration}
+use Rattle.gb_print_names.specs.declared.bound_names.Enumeration.{Enumeration}
 use Rattle.gb_shown.specs.Named.{IsNamed}
 use Rattle.gb_shown.specs.Scopes.{IsNamedModule, IsNamedSetting, AreNamedBindings}
 use Rattle.gb_shown.proofs.Given.{given_bind, given_is, not_given, if_allowed, if_refused, same_some}

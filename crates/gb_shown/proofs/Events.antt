@@ -18,14 +18,14 @@ use Rattle.gb_goal.specs.Goal.Code.{procedure}
 use Rattle.gb_goal.specs.Scope.{Declarations}
 use Rattle.gb_steps.specs.declared.step.EventLaw.{EventLaw}
 use Rattle.gb_steps.specs.declared.step.EventLaw.TheVariants as law
-use Rattle.gb_chances.specs.Chances.{last, before_last}
-use Rattle.gb_chances.specs.First.{is_quotient, or_else}
+use Rattle.gb_steps.specs.Chances.{last, before_last}
+use Rattle.gb_steps.specs.First.{is_quotient, or_else}
 use Rattle.gb_mods.specs.Called.{same_procedure}
-use Rattle.gb_parts.specs.Compared.{zero as nought}
+use Rattle.gb_prog.specs.Compared.{zero as nought}
 use Rattle.gb_typing.specs.Forms.{and_form, not_form}
 use Rattle.gb_full.specs.Loss.{Loss, nowhere, code_loss}
 use Rattle.gb_rewrite.specs.Events.{chance, plus, minus, either_at, either_of, negation_at, negation_of, is_false, either, whole_by, negated, divided, by_law, law_at, by_first, parts_by_first}
-use Rattle.gb_shapes.specs.declared.place.Enumeration.{Enumeration}
+use Rattle.gb_print_names.specs.declared.bound_names.Enumeration.{Enumeration}
 use Rattle.gb_print.specs.Written.{IsWrittenProcedure}
 use Rattle.gb_shown.specs.Named.{IsNamedHead, IsNamed, IsNamedGoal}
 use Rattle.gb_shown.specs.Rules.{IsNamedLaw}

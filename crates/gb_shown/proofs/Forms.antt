@@ -59,7 +59,7 @@ use Rattle.gb_elab.specs.OneProcedure.{after_one, always, around, before_one, re
 use Rattle.gb_elab.specs.Probability.{before_call, chance, chance_here}
 use Rattle.gb_elab.specs.Globs.{Seen, bare_glob, both_whole, whole_alone}
 use Rattle.gb_elab.specs.Forms.{Arguing, Contracting, Typing, Meaning, annotated, applied, applied_form, application, arguing, arguments, arguments_of, bare, bounded, bracketed, by_rule, call, comparing, contract, contracting, contract_of, declared, elaborated, equivalence, function, hoare, function_typing, last_arguments, meaning, meant, only, operand, operands, operation, operator_alone, probability, projection, quantified, read, simple, summed, typing, under, user_call, value_of, with_meanings, with_side}
-use Rattle.gb_shapes.specs.declared.place.Enumeration.{Enumeration}
+use Rattle.gb_print_names.specs.declared.bound_names.Enumeration.{Enumeration}
 use Rattle.gb_print.specs.Written.{in_range, IsWrittenProcedure}
 use Rattle.gb_shown.specs.Named.{IsNamedType, IsNamedResult, IsNamed}
 use Rattle.gb_shown.proofs.SpeltTrees.{AllNamed, node_named}

@@ -20,7 +20,7 @@ use Rattle.gb_names.specs.declared.bindings.Binding.{Binding}
 use Rattle.gb_names.specs.Bindings.{innermost}
 use Rattle.gb_names.specs.Environment.{Name}
 use Rattle.gb_names.specs.Names.{first_named}
-use Rattle.gb_shapes.specs.declared.place.Enumeration.{Enumeration}
+use Rattle.gb_print_names.specs.declared.bound_names.Enumeration.{Enumeration}
 use Rattle.gb_print.specs.Written.{is_name_text, is_path, is_word, is_word_here, IsWrittenType}
 use Rattle.gb_print.specs.Written as w
 use Rattle.gb_print.proofs.LeavesShown.{one_word, all_bytes}

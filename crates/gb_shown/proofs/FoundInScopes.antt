@@ -16,7 +16,7 @@ use Rattle.gb_goal.specs.Interfaces.{suits}
 use Rattle.gb_goal.specs.Scope.{Declarations, entry_of, as_abstract, as_module, instance_at, module_of, proc_of, proc_if_plain, proc_in, proc_at, procedure_of}
 use Rattle.gb_goal.specs.declared.scope.Entry.{Entry}
 use Rattle.gb_goal.specs.declared.scope.Entry.TheVariants as entry
-use Rattle.gb_shapes.specs.declared.place.Enumeration.{Enumeration}
+use Rattle.gb_print_names.specs.declared.bound_names.Enumeration.{Enumeration}
 use Rattle.gb_print.specs.Written.{is_name_text, is_path, IsWrittenModule, IsWrittenProcedure}
 use Rattle.gb_shown.specs.Named.{IsNamedVariable}
 use Rattle.gb_shown.specs.Rules.{IsNamedLocal, AreNamedGlobals, AreNamedOperators}

@@ -14,8 +14,8 @@ use Rattle.gb_steps.specs.declared.step.Rule.{Rule}
 use Rattle.gb_steps.specs.declared.step.Step.{Step}
 use Rattle.gb_typing.specs.Context.{Context}
 use Rattle.gb_typing.specs.Programs.{EachStatement}
-use Rattle.gb_shapes.specs.declared.place.Enumeration.{Enumeration}
-use Rattle.gb_print_text.specs.Goals.{place_of_goal, printed_goal}
+use Rattle.gb_print_names.specs.declared.bound_names.Enumeration.{Enumeration}
+use Rattle.gb_print.specs.GoalText.{place_of_goal, printed_goal}
 use Rattle.gb_print.specs.Goals.{IsGoalReadAs}
 use Rattle.gb_shown.specs.Named.{IsNamedInstr, IsNamedSequent}
 use Rattle.gb_shown.specs.Rules.{AreNamedArguments}
@@ -25,7 +25,7 @@ use Rattle.gb_elab_prog.specs.Entries.{entries_given}
 use Rattle.gb_elab_prog.specs.Modules.{module_given}
 use Rattle.gb_elab_mod.specs.Lemmas.{statement_given}
 use Rattle.gb_elab_mod.specs.Steps.{step_given}
-use Rattle.gb_variants.specs.Variants.{goals_of}
+use Rattle.gb_loops.specs.Variants.{goals_of}
 use Rattle.gb_theory.specs.Commands.{Applied}
 use Rattle.gb_theory.specs.Outcome.{IsReadAs}
 use Rattle.gb_session.specs.Commands.{enumerated}

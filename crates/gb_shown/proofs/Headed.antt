@@ -20,7 +20,7 @@ use Rattle.gb_meaning.specs.Names.{Name}
 use Rattle.gb_meaning.specs.Written.{type_of}
 use Rattle.gb_laws.proofs.Trees.{out_is}
 use Rattle.gb_goal.specs.Goal.{is_body_at, judges_bodies}
-use Rattle.gb_holds.specs.Truth.{last_has_module, Choice}
+use Rattle.gb_meaning.specs.Truth.{last_has_module, Choice}
 use Rattle.gb_laws.specs.Typing.{OperatorType, Binder, types_of, IsHead, bound_by}
 use Rattle.gb_laws.specs.Typing.Binder.{value, memory, program}
 use Rattle.gb_laws.specs.Typing as typed

@@ -39,7 +39,7 @@ use Rattle.gb_ended.specs.Loops.{unproved_of}
 use Rattle.gb_laws.proofs.Constructors.{option_is}
 use Rattle.gb_typing.specs.Programs.{locals_of}
 use Rattle.gb_typing.proofs.Given.{refused_given, same_given}
-use Rattle.gb_parts.specs.OneBody.{OneBody}
+use Rattle.gb_prog.specs.OneBody.{OneBody}
 use Rattle.gb_trans.specs.Transformed.{with_body}
 use Rattle.gb_inline.specs.declared.fresh.Renaming.{Renaming}
 use Rattle.gb_inline.specs.Fresh.{numbered, is_taken, free_from, free_name, under_name, renamed_first, new_names}
@@ -47,7 +47,7 @@ use Rattle.gb_inline.specs.Renamed.{Renamings, name_renamed, var_renamed, reads_
 use Rattle.gb_inline.specs.Expanded.{each_set, result_set, in_place, expanded}
 use Rattle.gb_forms.specs.Firsts.{none_got, first_of, firsts}
 use Rattle.gb_inline.specs.Inlined.{is_asked, unless_unproved, asked, Expansion, side_inlined, next_inlined, statement_inlined, row_inlined, each_inlined, used, once, going_on, repeated, without_calls, inlined, or_none, or_given, both_inlined, inline_both, inline_row}
-use Rattle.gb_shapes.specs.declared.place.Enumeration.{Enumeration}
+use Rattle.gb_print_names.specs.declared.bound_names.Enumeration.{Enumeration}
 use Rattle.gb_print.specs.Written.{is_name_text, is_path, is_numeral_here, is_target_here, are_targets_here, IsWrittenProcedure}
 use Rattle.gb_print.proofs.Tokens.{both}
 use Rattle.gb_shown.proofs.TypedForms.{name_path}

@@ -15,7 +15,7 @@ use Rattle.gb_terms.specs.declared.term.Instr.{Instr, Row_of-Instr, end_of-Instr
 use Rattle.gb_terms.specs.Rows.{mexps_in, terms_in}
 use Rattle.gb_goal.specs.Instances.{arguments_of, call_with, calls_with, given_more, instance, name_of, put_in, put_in_all, put_in_reference, row_with, stands_for}
 use Rattle.gb_meaning.specs.Names.{Name}
-use Rattle.gb_shapes.specs.declared.place.Enumeration.{Enumeration}
+use Rattle.gb_print_names.specs.declared.bound_names.Enumeration.{Enumeration}
 use Rattle.gb_print.specs.Written.{is_path, AreWrittenModules, IsWrittenModule, IsWrittenProcedure}
 use Rattle.gb_print.specs.Written as w
 use Rattle.gb_shown.specs.Named.{AreNamedInstrs, IsNamedInstr}

@@ -16,7 +16,7 @@ use Rattle.gb_goal.specs.declared.module_type.Signature.{Signature}
 use Rattle.gb_goal.specs.declared.scope.Entry.{Entry}
 use Rattle.gb_goal.specs.declared.scope.Entry.TheVariants as entry
 use Rattle.gb_meaning.specs.Names.{Name}
-use Rattle.gb_shapes.specs.declared.place.Enumeration.{Enumeration}
+use Rattle.gb_print_names.specs.declared.bound_names.Enumeration.{Enumeration}
 use Rattle.gb_print.specs.Written.{is_name_text, is_path}
 use Rattle.gb_shown.specs.Scopes.{AreNamedTypes, IsNamedAround, IsNamedInterface, IsNamedMember, IsNamedModule, IsNamedParam, IsNamedProcedureType, IsNamedScope, IsNamedSignature}
 use Rattle.gb_shown.proofs.FoundInForms.{entry_found, path_of, type_signatures}

@@ -26,7 +26,7 @@ use Rattle.gb_names.specs.Names.{dotted, no_procedure_of}
 use Rattle.gb_elab.specs.declared.contract.Contract.{Contract}
 use Rattle.gb_elab.specs.OneProcedure.{after_one, always, around, before_one, ends, lossless, one, with_chance}
 use Rattle.gb_elab.specs.Probability.{before_call}
-use Rattle.gb_shapes.specs.declared.place.Enumeration.{Enumeration}
+use Rattle.gb_print_names.specs.declared.bound_names.Enumeration.{Enumeration}
 use Rattle.gb_print.specs.Written.{is_name_text, IsWrittenProcedure}
 use Rattle.gb_shown.specs.Named.{IsNamed}
 use Rattle.gb_shown.proofs.SpeltTrees.{node_named}

@@ -2,7 +2,7 @@
 use Rattle.std.proofs.Common.{◌≡◌, List}
 use Rattle.gb_terms.specs.declared.decl.TypedName.{TypedName}
 use Rattle.gb_goal.specs.Scope.{Declarations}
-use Rattle.gb_shapes.specs.declared.place.Enumeration.{Enumeration}
+use Rattle.gb_print_names.specs.declared.bound_names.Enumeration.{Enumeration}
 use Rattle.gb_print.specs.Written.{is_path}
 use Rattle.gb_shown.specs.Named.{IsNamedType, IsNamedVariable}
 use Rattle.gb_shown.specs.Rules.{AreNamedProcedures}

@@ -23,7 +23,7 @@ use Rattle.gb_goal.specs.Scope.{Declarations}
 use Rattle.gb_goal.specs.declared.scope.Entry.{Entry}
 use Rattle.gb_goal.specs.declared.scope.Entry.TheVariants as entry
 use Rattle.gb_goal.specs.declared.sequent.Sequent.{Sequent}
-use Rattle.gb_shapes.specs.declared.place.Enumeration.{Enumeration}
+use Rattle.gb_print_names.specs.declared.bound_names.Enumeration.{Enumeration}
 use Rattle.gb_print_names.specs.Names.{constants}
 use Rattle.gb_print.specs.Written.{in_range, is_name_there, is_path, is_path_there, is_numeral_here, is_word_here, has_word, is_weight_here, are_weights_here, IsWrittenLiteral}
 use Rattle.gb_shown.specs.Named.{IsNamedHead, IsNamed, AreNamed, IsNamedInstr, AreNamedInstrs, IsNamedCode, IsNamedGoal, IsNamedHyp, IsNamedSequent}

@@ -39,7 +39,7 @@ use Rattle.gb_names.specs.Names.{ModuleVariable, Target, beside, bound_thing, bo
 use Rattle.gb_names.specs.Wanted.{counted}
 use Rattle.gb_elab.specs.Forms.{read}
 use Rattle.gb_elab.specs.Globs.{Seen, as_value, bare_glob, is_abstract, whole_alone, whole_read, whole_value}
-use Rattle.gb_shapes.specs.declared.place.Enumeration.{Enumeration}
+use Rattle.gb_print_names.specs.declared.bound_names.Enumeration.{Enumeration}
 use Rattle.gb_print.specs.Written.{is_path, is_target_here}
 use Rattle.gb_shown.specs.Named.{IsNamedType, IsNamed, IsNamedVariable}
 use Rattle.gb_shown.proofs.SpeltTrees.{node_named}

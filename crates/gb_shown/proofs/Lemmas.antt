@@ -26,7 +26,7 @@ use Rattle.gb_elab_prog.specs.ModuleTypes.{module_type_at}
 use Rattle.gb_elab_prog.specs.Sizes.{small}
 use Rattle.gb_elab_mod.specs.Lemmas.{claimed, stated, statement_by, statement_given}
 use Rattle.gb_elab_laws.proofs.Given.{given_bind, given_is, if_given, some_given}
-use Rattle.gb_shapes.specs.declared.place.Enumeration.{Enumeration}
+use Rattle.gb_print_names.specs.declared.bound_names.Enumeration.{Enumeration}
 use Rattle.gb_print.specs.Written.{is_name_text, is_path}
 use Rattle.gb_shown.specs.Named.{IsNamed, IsNamedVariable, IsNamedBind}
 use Rattle.gb_shown.proofs.Sequents.{all_append}

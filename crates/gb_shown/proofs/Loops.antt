@@ -22,15 +22,15 @@ use Rattle.gb_goal.specs.Goal.Goal.{hoare, phoare, equiv, ambient}
 use Rattle.gb_goal.specs.Scope.{Declarations}
 use Rattle.gb_mods.specs.Exclusions.{exclusions}
 use Rattle.gb_typing.proofs.Given.{refused_given, same_given}
-use Rattle.gb_parts.specs.OneBody.{OneBody}
-use Rattle.gb_parts.specs.Assigned.{clashing}
+use Rattle.gb_prog.specs.OneBody.{OneBody}
+use Rattle.gb_prog.specs.Assigned.{clashing}
 use Rattle.gb_call.specs.Call.{unless_clash}
 use Rattle.gb_loops.specs.LastLoop.{LastLoop, loop_at, behind, last_loop}
 use Rattle.gb_forms.specs.Loops.{written}
 use Rattle.gb_loops.specs.Read.{read_in}
 use Rattle.gb_loops.specs.While.{turning, at_end, before_loop, loop_goals, kept_weight, by_written, by_loop, is_certain, where_certain, one_loop, in_step, at_both_ends, read_both, both_goals, clashing_both, both_written, by_both, both_loops, while_row}
 use Rattle.gb_forms.specs.Loops.{turn_goal}
-use Rattle.gb_shapes.specs.declared.place.Enumeration.{Enumeration}
+use Rattle.gb_print_names.specs.declared.bound_names.Enumeration.{Enumeration}
 use Rattle.gb_shown.specs.Named.{IsNamed, IsNamedInstr, IsNamedGoal}
 use Rattle.gb_shown.specs.Rules.{KeepsNames}
 use Rattle.gb_shown.proofs.SpeltForms.{and_named, implies_named, not_named, equal_named, located_named}

@@ -36,7 +36,7 @@ use Rattle.gb_operators.specs.Drawn.{drawn_head, drawn_result, outcome_wanted, s
 use Rattle.gb_operators.specs.Kinds.{component, components, element, entries, inside_option, is_arithmetic_layer, is_of_bits_layer, is_of_values, is_of_values_layer, is_signed, is_signed_layer, is_small, outcome}
 use Rattle.gb_operators.specs.Operators.{first_wanted, operand_wanted, option_wanted, part_wanted, prefix_operator, prefix_result, result_type, shaped, takes}
 use Rattle.gb_operators.specs.Rules.{asked, factor_wanted, factors, in_order, made, member, of_type, outcome_of, pair, part_type, parts_wanted, product_type, values}
-use Rattle.gb_shapes.specs.declared.place.Enumeration.{Enumeration}
+use Rattle.gb_print_names.specs.declared.bound_names.Enumeration.{Enumeration}
 use Rattle.gb_print.specs.Written.{in_range, is_path}
 use Rattle.gb_shown.specs.Named.{IsNamedType, IsNamedResult, IsNamedOperator, IsNamed}
 use Rattle.gb_shown.proofs.SpeltTrees.{AllNamed, node_named, parts_named}

@@ -3,7 +3,7 @@ use Rattle.std.specs.Prelude.{ℕ, zero, suc, ◌≡◌, Bool, true, false, List
 use Rattle.std.proofs.Common.{refl, sym, ◌∙◌, subst}
 use Rattle.std.proofs.lemmas.Bool.{and_parts}
 use Rattle.gb_core.specs.declared.place.Place.{Place}
-use Rattle.gb_grammar.specs.declared.table.Step.{Step}
+use Rattle.gb_script.specs.declared.table.Step.{Step}
 use Rattle.gb_script.specs.declared.action.Action.{Action}
 use Rattle.gb_script.specs.declared.action.Action.TheVariants.{Nothing, Pass, Make, Enclose, Spell, Graft, Flat, Extend, Many, Lead, Attach}
 use Rattle.gb_script.specs.declared.action.Rule.{Rule}

@@ -21,7 +21,7 @@ use Rattle.gb_read_script.specs.Words.{is_name}
 use Rattle.gb_script.specs.declared.terminal.Terminal.{Terminal}
 use Rattle.gb_script.specs.declared.terminal.Terminal.TheVariants as terminal
 use Rattle.gb_print_names.specs.Text.{Text}
-use Rattle.gb_shapes.specs.Names.{Name, primed}
+use Rattle.gb_print_names.specs.BoundNames.{Name, primed}
 use Rattle.gb_print.specs.Written.{is_name_text}
 use Rattle.gb_print.proofs.Tokens.{both}
 use Rattle.gb_print.proofs.NameWords.{false_by}

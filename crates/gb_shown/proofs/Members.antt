@@ -31,7 +31,7 @@ use Rattle.gb_elab_prog.specs.declared.stated.Where.{Where}
 use Rattle.gb_elab_prog.specs.declared.stated.Where.TheVariants.{Front, Behind}
 use Rattle.gb_elab_prog.specs.Procedures.{untaken, result_type, lacks_value, value, undeclared, formal, formals, declared, variables, locals, with_result, result_of, procedure_by}
 use Rattle.gb_elab_laws.proofs.Given.{given_bind, given_is, if_refused}
-use Rattle.gb_shapes.specs.declared.place.Enumeration.{Enumeration}
+use Rattle.gb_print_names.specs.declared.bound_names.Enumeration.{Enumeration}
 use Rattle.gb_shown.specs.Named.{IsNamed, IsNamedType, IsNamedVariable, IsNamedSequent}
 use Rattle.gb_shown.specs.Rules.{IsNamedLocal}
 use Rattle.gb_shown.proofs.SpeltForms.{as_result}

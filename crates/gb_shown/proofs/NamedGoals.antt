@@ -25,8 +25,8 @@ use Rattle.gb_goal.specs.Goal.Goal.{hoare, phoare, equiv, ambient}
 use Rattle.gb_goal.specs.Scope as scope
 use Rattle.gb_goal.specs.declared.sequent.Hyp.{Hyp}
 use Rattle.gb_goal.specs.declared.sequent.Sequent.{Sequent}
-use Rattle.gb_holds.specs.Declared.{Declarations}
-use Rattle.gb_holds.specs.Truth.{has_module, last_has_module}
+use Rattle.gb_meaning.specs.Declared.{Declarations}
+use Rattle.gb_meaning.specs.Truth.{has_module, last_has_module}
 use Rattle.gb_typing.specs.Context.{Context, procedure as procedure_at, of_program}
 use Rattle.gb_typing.specs.Modules.{ProcedureType}
 use Rattle.gb_typing.specs.Goals.{IsGoalOver}
@@ -35,11 +35,11 @@ use Rattle.gb_typing.specs.Sequents.{IsConclusion, of_sequent, AreHypotheses, Is
 use Rattle.gb_typing.specs.Scopes.{context_of}
 use Rattle.gb_typing.proofs.Shapes.{goal_form, node_out}
 use Rattle.gb_typing.proofs.TypedGoals.{conclusion_goal}
-use Rattle.gb_shapes.specs.declared.place.Enumeration.{Enumeration}
-use Rattle.gb_shapes.specs.Names.{Place}
+use Rattle.gb_print_names.specs.declared.bound_names.Enumeration.{Enumeration}
+use Rattle.gb_print_names.specs.BoundNames.{Place}
 use Rattle.gb_print_names.specs.Names.{module_name}
 use Rattle.gb_print_names.specs.Occurring.{inside}
-use Rattle.gb_print_text.specs.Goals.{place_of_goal}
+use Rattle.gb_print.specs.GoalText.{place_of_goal}
 use Rattle.gb_print.specs.Written.{is_name_text, is_path, is_limit_here, is_bind_here, IsWrittenType}
 use Rattle.gb_print.specs.Goals.{AreWrittenVariables, no_variables, one_variable, AreWrittenMemories, no_memories, one_memory, AreWrittenBinds, no_binds, one_bind}
 use Rattle.gb_shown.specs.Spelt.{IsSpeltHead, IsSpelt, AreSpelt, EachSpelt, IsSpeltInstr, AreSpeltInstrs, AreSpeltBodies, IsSpeltConclusion, AreSpeltHyps, IsSpeltGoal}

@@ -17,7 +17,7 @@ use Rattle.gb_names.specs.Environment.{Name, Environment}
 use Rattle.gb_names.specs.Modules.{Given, Read, Reading, all_given, application, applied, bracketed, brackets, complete, expression, fitting, known_module, lacks_none, module_at, named_module, names, next_given, read, read_by, whole_module, with_given, with_modules, wholes}
 use Rattle.gb_names.specs.Names.{hidden, may_name, no_declared, path, spelled_by}
 use Rattle.gb_names.proofs.Nodes.{Known as KnownNode, by_parts, parts, said}
-use Rattle.gb_shapes.specs.declared.place.Enumeration.{Enumeration}
+use Rattle.gb_print_names.specs.declared.bound_names.Enumeration.{Enumeration}
 use Rattle.gb_print.specs.Written.{is_path, IsWrittenModule}
 use Rattle.gb_shown.specs.Scopes.{IsNamedInterface, IsNamedSetting}
 use Rattle.gb_shown.proofs.Given.{given_bind, given_is, if_allowed, if_refused, some_given}

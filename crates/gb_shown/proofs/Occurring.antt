@@ -31,7 +31,7 @@ use Rattle.gb_typing.specs.Programs.{IsStatement, AreStatements, EachStatement}
 use Rattle.gb_elab_mod.specs.Occurring.{Locals, local, or_args, read_locals, outcome_local, sampled, each_local, part_locals, taking, returned, row_read, statement_locals, row_locals, added, with_all, occurring}
 use Rattle.gb_elab_laws.proofs.Given.{none_some, out_type, same_some}
 use Rattle.gb_elab_laws.proofs.Occurring.{head_locals, read_is}
-use Rattle.gb_shapes.specs.declared.place.Enumeration.{Enumeration}
+use Rattle.gb_print_names.specs.declared.bound_names.Enumeration.{Enumeration}
 use Rattle.gb_print.specs.Written.{is_target_here, are_targets_here}
 use Rattle.gb_shown.specs.Named.{IsNamedType, AreNamedTypes, IsNamedResult, IsNamedHead, IsNamed, AreNamed, IsNamedInstr, AreNamedInstrs}
 use Rattle.gb_shown.proofs.Sequents.{all_append}

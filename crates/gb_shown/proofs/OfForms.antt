@@ -11,7 +11,7 @@ use Rattle.gb_names.specs.Environment.{Name, Environment}
 use Rattle.gb_names.specs.Names.{Target, target}
 use Rattle.gb_names.specs.Types.{type_of, type_or_number}
 use Rattle.gb_elab.specs.Forms.{elaborated, function}
-use Rattle.gb_shapes.specs.declared.place.Enumeration.{Enumeration}
+use Rattle.gb_print_names.specs.declared.bound_names.Enumeration.{Enumeration}
 use Rattle.gb_print.specs.Written.{is_target_here, IsWrittenType}
 use Rattle.gb_shown.specs.Named.{IsNamed, IsNamedType}
 use Rattle.gb_shown.specs.Rules.{HasFirst}

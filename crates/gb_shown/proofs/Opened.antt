@@ -13,9 +13,9 @@ use Rattle.gb_terms.specs.declared.term.Head.TheFolds.{map-Head, fold-Head, fold
 use Rattle.gb_walk.specs.Layers.{is_binder, where_last, seen_by}
 use Rattle.gb_meaning.specs.Commands.{terms_in}
 use Rattle.gb_laws.proofs.Trees.{HeadLayer, out_is}
-use Rattle.gb_shapes.specs.declared.place.Enumeration.{Enumeration}
-use Rattle.gb_shapes.specs.Open.{found_at, first_found, at_head, at_term, is_open, type_read}
-use Rattle.gb_shapes.proofs.OpenSteps.{type_read_is}
+use Rattle.gb_print_names.specs.declared.bound_names.Enumeration.{Enumeration}
+use Rattle.gb_print_names.specs.Open.{found_at, first_found, at_head, at_term, is_open, type_read}
+use Rattle.gb_print_names.proofs.OpenSteps.{type_read_is}
 use Rattle.gb_shown.specs.Named.{IsNamedType, IsNamedHead, IsNamed, AreNamed}
 use mathlib.Core.Former.{Count}
 

@@ -22,16 +22,16 @@ use Rattle.gb_goal.specs.Goal.{Goal}
 use Rattle.gb_goal.specs.Goal.Goal.{hoare, phoare, equiv, ambient}
 use Rattle.gb_goal.specs.Rows.{refusing}
 use Rattle.gb_goal.specs.Scope.{Declarations, procedure_of}
-use Rattle.gb_chances.specs.Chances.{Chance, Bounded, Compared, last, before_last, chance_at, chance_of, compared_at, compared_of, unless, bounded_if, bounded_by, bounded_in, bounded_of, chances_by, chances_in, chances_of}
+use Rattle.gb_steps.specs.Chances.{Chance, Bounded, Compared, last, before_last, chance_at, chance_of, compared_at, compared_of, unless, bounded_if, bounded_by, bounded_in, bounded_of, chances_by, chances_in, chances_of}
 use Rattle.gb_typing.specs.Forms.{located}
 use Rattle.gb_typing.proofs.Given.{refused_given, same_given}
-use Rattle.gb_parts.specs.Compared.{literal}
+use Rattle.gb_prog.specs.Compared.{literal}
 use Rattle.gb_pr.specs.ByEquiv.{beside, by_equiv_goals, by_equiv_of, by_equiv_at, by_equiv_row}
 use Rattle.gb_pr.specs.ByEvents.{same_rel, same_start, by_events_goals, by_events_of, by_events_row, is_kept, within_of, within_row}
 use Rattle.gb_pr.specs.ByPhoare.{by_phoare_goals, by_phoare_of, by_phoare_at, by_phoare_row}
 use Rattle.gb_pr.specs.Rows.{probability_row}
 use Rattle.gb_pr.specs.Started.{given_for, started}
-use Rattle.gb_shapes.specs.declared.place.Enumeration.{Enumeration}
+use Rattle.gb_print_names.specs.declared.bound_names.Enumeration.{Enumeration}
 use Rattle.gb_print.specs.Written.{IsWrittenProcedure}
 use Rattle.gb_shown.specs.Named.{IsNamedHead, IsNamed}
 use Rattle.gb_shown.specs.Rules.{AreNamedConditions, IsNamedProbability, KeepsNames}

@@ -41,15 +41,15 @@ use Rattle.gb_bodies.specs.Case.{case_one}
 use Rattle.gb_bodies.specs.Conseq as conseq
 use Rattle.gb_bodies.specs.Conseq.{or_old}
 use Rattle.gb_bodies.specs.If.{Branch, branch_at, first_branch, where_true, where_false, of_one, of_both, if_both}
-use Rattle.gb_parts.specs.OneBody.{OneBody, on_one, one_body}
-use Rattle.gb_parts.specs.Assigned.{clashing, assigned_form}
+use Rattle.gb_prog.specs.OneBody.{OneBody, on_one, one_body}
+use Rattle.gb_prog.specs.Assigned.{clashing, assigned_form}
 use Rattle.gb_bodies.specs.Proc as proc
 use Rattle.gb_bodies.specs.Rows.{body_row}
 use Rattle.gb_bodies.specs.Seq.{seq_row}
 use Rattle.gb_bodies.specs.Skip.{skip_row}
 use Rattle.gb_bodies.specs.Wp.{unless_clash, before, before_row, before_all, ending, front, staying, wp_both, wp_one}
 use Rattle.gb_forms.specs.Branches.{by_test}
-use Rattle.gb_shapes.specs.declared.place.Enumeration.{Enumeration}
+use Rattle.gb_print_names.specs.declared.bound_names.Enumeration.{Enumeration}
 use Rattle.gb_shown.specs.Named.{IsNamed, IsNamedInstr, AreNamedInstrs, IsNamedGoal}
 use Rattle.gb_shown.specs.Rules.{IsNamedProcedure, AreNamedProcedures, IsNamedIfAny, IsNamedRule, KeepsNames}
 use Rattle.gb_shown.proofs.Changed.{changed_named}

@@ -22,7 +22,7 @@ use Rattle.gb_names.specs.Binders.{bound_by, bound_in, memory_bound, new_names, 
 use Rattle.gb_names.specs.Bindings.{memory}
 use Rattle.gb_names.specs.Environment.{Environment}
 use Rattle.gb_names.specs.Types.{type_of}
-use Rattle.gb_shapes.specs.declared.place.Enumeration.{Enumeration}
+use Rattle.gb_print_names.specs.declared.bound_names.Enumeration.{Enumeration}
 use Rattle.gb_shown.specs.Named.{IsNamedType, IsNamed}
 use Rattle.gb_shown.proofs.SpeltTrees.{node_named}
 use Rattle.gb_shown.specs.Scopes.{IsNamedScope, IsNamedKind, AreNamedBindings}

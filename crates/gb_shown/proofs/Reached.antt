@@ -11,7 +11,7 @@ use Rattle.gb_mods.specs.Meant.{meant_by}
 use Rattle.gb_mods.specs.declared.meant.Meant.{Meant}
 use Rattle.gb_mods.specs.declared.meant.Meant.TheVariants.{Unknown, Declared, Any}
 use Rattle.gb_adversaries.proofs.Meanings.{declared_there}
-use Rattle.gb_shapes.specs.declared.place.Enumeration.{Enumeration}
+use Rattle.gb_print_names.specs.declared.bound_names.Enumeration.{Enumeration}
 use Rattle.gb_print.specs.Written.{IsWrittenProcedure}
 use Rattle.gb_shown.specs.Named.{IsNamedInstr, AreNamedInstrs}
 use Rattle.gb_shown.specs.Rules.{AreNamedProcedures, IsNamedProcedure}

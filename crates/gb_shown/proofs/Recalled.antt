@@ -21,7 +21,7 @@ use Rattle.gb_laws.proofs.Trees.{out_is}
 use Rattle.gb_names.specs.Environment.{Name}
 use Rattle.gb_names.specs.Locals.{first_some, goal_read_type, hyps_read_type, local_if, locals_in, read_type, reads_local}
 use Rattle.gb_names.proofs.ReadTypes.{read_type_out}
-use Rattle.gb_shapes.specs.declared.place.Enumeration.{Enumeration}
+use Rattle.gb_print_names.specs.declared.bound_names.Enumeration.{Enumeration}
 use Rattle.gb_print.specs.Written.{is_path}
 use Rattle.gb_shown.specs.Named.{IsNamedType, IsNamedHead, IsNamed, AreNamed, IsNamedGoal, IsNamedHyp, IsNamedSequent}
 use Rattle.gb_shown.specs.Scopes.{IsNamedLocal}

@@ -27,16 +27,16 @@ use Rattle.gb_typing.specs.Forms.{and_form, implies_form, located, to_bound}
 use Rattle.gb_typing.specs.Samplings.{Sampling, last_sampling}
 use Rattle.gb_typing.specs.Supports.{nearest}
 use Rattle.gb_typing.proofs.Given.{refused_given, same_given}
-use Rattle.gb_parts.specs.OneBody.{OneBody}
-use Rattle.gb_parts.specs.Compared.{one}
+use Rattle.gb_prog.specs.OneBody.{OneBody}
+use Rattle.gb_prog.specs.Compared.{one}
 use Rattle.gb_full.specs.Loss.{may_lose}
 use Rattle.gb_equiv.specs.Drawn.{clashing}
-use Rattle.gb_relational.specs.OneSide.{with_value, each_drawn, before_drawing, by_end, drawn_row}
+use Rattle.gb_equiv.specs.OneSide.{with_value, each_drawn, before_drawing, by_end, drawn_row}
 use Rattle.gb_forms.specs.Surely.{drawing, surely_drawn}
-use Rattle.gb_relational.specs.Rows.{rule_row}
-use Rattle.gb_premises.specs.Between.{from_left, to_right, reads_between, some_between}
-use Rattle.gb_relational.specs.Transitivity.{every_between, through, transitivity_row}
-use Rattle.gb_shapes.specs.declared.place.Enumeration.{Enumeration}
+use Rattle.gb_equiv.specs.Rows.{rule_row}
+use Rattle.gb_forms.specs.Between.{from_left, to_right, reads_between, some_between}
+use Rattle.gb_equiv.specs.Transitivity.{every_between, through, transitivity_row}
+use Rattle.gb_print_names.specs.declared.bound_names.Enumeration.{Enumeration}
 use Rattle.gb_shown.specs.Named.{IsNamed}
 use Rattle.gb_shown.specs.Rules.{IsNamedBetween, IsNamedRelational, KeepsNames}
 use Rattle.gb_shown.proofs.SpeltTrees.{node_named}

@@ -33,8 +33,8 @@ use Rattle.gb_amb.specs.Parts.{concluding}
 use Rattle.gb_amb.specs.Quantified.{quantifies_modules, goal_quantifies_modules}
 use Rattle.gb_eval.specs.Script.{body_in, body_named}
 use Rattle.gb_rewrite.specs.Equations.{Pair, exchanged, equation_at, equivalence_at, equation_of, equivalence_of, is_variable_apart, used_up_of}
-use Rattle.gb_chances.specs.First.{is_quotient}
-use Rattle.gb_parts.specs.Same.{is_same}
+use Rattle.gb_steps.specs.First.{is_quotient}
+use Rattle.gb_prog.specs.Same.{is_same}
 use Rattle.gb_rewrite.specs.Rewritten.{rewritten, parts_rewritten, list_rewritten, stands}
 use Rattle.gb_rewrite.specs.Events.{by_first}
 use Rattle.gb_rewrite.specs.Rewriting.{rewriting, others, hypothesis_rewritten, without, using_up, using_up_hypothesis, unfolded_everywhere, opening_by, concluding_by, by_event_law, rewrite_answer}
@@ -42,7 +42,7 @@ use Rattle.gb_rewrite.specs.Unfolded.{names, is_operator, unfolded, all_unfolded
 use Rattle.gb_forms.specs.Arguments.{in_places}
 use Rattle.gb_rewrite.proofs.Layers.{unfolded_out}
 use Rattle.gb_rewrite.proofs.Parts.{rewritten_out}
-use Rattle.gb_shapes.specs.declared.place.Enumeration.{Enumeration}
+use Rattle.gb_print_names.specs.declared.bound_names.Enumeration.{Enumeration}
 use Rattle.gb_shown.specs.Named.{IsNamed, AreNamed, IsNamedInstr, AreNamedInstrs, IsNamedSubject, IsNamedHead, IsNamedCode, IsNamedGoal, IsNamedHyp, IsNamedSequent}
 use Rattle.gb_shown.specs.Rules.{AreNamedOperators, IsNamedLaw, IsNamedRewrite}
 use Rattle.gb_shown.proofs.SpeltTrees.{AllNamed, node_named, parts_named, terms_named}

@@ -18,7 +18,7 @@ use Rattle.gb_goal.specs.Rows.{Row, concluding, each_concluding, answered, stepp
 use Rattle.gb_goal.specs.declared.sequent.Sequent.{Sequent}
 use Rattle.gb_typing.proofs.Given.{refused_at, same_given}
 use Rattle.gb_typing.proofs.Shapes.{code_back, form_goal, node_out}
-use Rattle.gb_shapes.specs.declared.place.Enumeration.{Enumeration}
+use Rattle.gb_print_names.specs.declared.bound_names.Enumeration.{Enumeration}
 use Rattle.gb_shown.specs.Named.{IsNamedSubject, IsNamedHead, IsNamed, IsNamedCode, IsNamedGoal, IsNamedSequent}
 use Rattle.gb_shown.specs.Rules.{KeepsNames}
 use Rattle.gb_shown.proofs.SpeltTrees.{AllNamed, parts_named}

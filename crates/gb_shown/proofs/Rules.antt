@@ -37,9 +37,9 @@ use Rattle.gb_steps.specs.declared.step.RewriteRule.TheVariants as rewrite_rule
 use Rattle.gb_steps.specs.declared.step.Rule.{Rule}
 use Rattle.gb_steps.specs.declared.step.Rule.TheVariants as rule
 use Rattle.gb_steps.specs.declared.step.Step.{Step}
-use Rattle.gb_chances.specs.Chances.{Bounded, Compared, bounded_of, chances_of}
-use Rattle.gb_chances.specs.First.{first_procedure}
-use Rattle.gb_holds.specs.Declared.{declared}
+use Rattle.gb_steps.specs.Chances.{Bounded, Compared, bounded_of, chances_of}
+use Rattle.gb_steps.specs.First.{first_procedure}
+use Rattle.gb_meaning.specs.Declared.{declared}
 use Rattle.gb_typing.specs.Context.{Context}
 use Rattle.gb_typing.specs.Goals.{IsGoalOver}
 use Rattle.gb_typing.specs.Scopes.{context_of}
@@ -55,7 +55,7 @@ use Rattle.gb_elab_mod.specs.Taken.{new_name}
 use Rattle.gb_elab_mod.specs.Uses.{all_hinted, defined_operator, hypothesis, is_memory, memory_of, used}
 use Rattle.gb_elab_prog.specs.Unbuilt.{absent}
 use Rattle.gb_elab_laws.proofs.Given.{given_bind, given_is}
-use Rattle.gb_shapes.specs.declared.place.Enumeration.{Enumeration}
+use Rattle.gb_print_names.specs.declared.bound_names.Enumeration.{Enumeration}
 use Rattle.gb_print.specs.Written.{is_name_text}
 use Rattle.gb_shown.specs.Named.{IsNamedHead, IsNamed, IsNamedGoal, IsNamedSequent}
 use Rattle.gb_shown.specs.Rules.{AreNamedArguments, IsNamedIfAny, IsNamedRelational, IsNamedRule, IsNamedStep}

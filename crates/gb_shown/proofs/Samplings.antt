@@ -38,7 +38,7 @@ use Rattle.gb_forms.specs.Coupled.{composed, keeps_weights, couples, coupled_pos
 use Rattle.gb_equiv.specs.Symmetry.{symmetry_row}
 use Rattle.gb_forms.specs.declared.coupled.Maps.{Maps}
 use Rattle.gb_forms.specs.declared.coupled.Coupled.{Coupled}
-use Rattle.gb_shapes.specs.declared.place.Enumeration.{Enumeration}
+use Rattle.gb_print_names.specs.declared.bound_names.Enumeration.{Enumeration}
 use Rattle.gb_shown.specs.Named.{IsNamedType, IsNamedResult, IsNamed, IsNamedInstr, IsNamedGoal}
 use Rattle.gb_shown.specs.Rules.{KeepsNames}
 use Rattle.gb_shown.proofs.SpeltTrees.{AllNamed, node_named, parts_named}

@@ -5,7 +5,7 @@ use Rattle.gb_terms.specs.declared.term.Term.{Term}
 use Rattle.gb_goal.specs.declared.sequent.Sequent.{Sequent}
 use Rattle.gb_amb.specs.Parts.{concluding}
 use Rattle.gb_amb.specs.Steps.{assuming}
-use Rattle.gb_shapes.specs.declared.place.Enumeration.{Enumeration}
+use Rattle.gb_print_names.specs.declared.bound_names.Enumeration.{Enumeration}
 use Rattle.gb_print.specs.Written.{is_name_text}
 use Rattle.gb_shown.specs.Named.{IsNamed, IsNamedHyp, IsNamedSequent}
 use Rattle.gb_shown.proofs.SpeltTrees.{AllNamed}

@@ -19,7 +19,7 @@ use Rattle.gb_names.specs.Environment.{ambient, of_function, of_operator, progra
 use Rattle.gb_names.specs.Names.{unit}
 use Rattle.gb_elab_prog.specs.declared.context.Bound.{Bound}
 use Rattle.gb_elab_prog.specs.Contexts.{context_of, in_context, nothing_around}
-use Rattle.gb_shapes.specs.declared.place.Enumeration.{Enumeration}
+use Rattle.gb_print_names.specs.declared.bound_names.Enumeration.{Enumeration}
 use Rattle.gb_print.specs.Written.{is_name_text, is_path, IsWrittenLiteral}
 use Rattle.gb_shown.specs.Named.{IsNamed, IsNamedVariable, IsNamedBind, IsNamedSequent}
 use Rattle.gb_shown.proofs.Rows.{goal_named}

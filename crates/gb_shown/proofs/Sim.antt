@@ -37,13 +37,13 @@ use Rattle.gb_mods.specs.Meant.{in_front, meant_by}
 use Rattle.gb_mods.specs.declared.meant.Meant.{Meant}
 use Rattle.gb_mods.specs.declared.meant.Meant.TheVariants.{Unknown, Declared, Any}
 use Rattle.gb_adversaries.proofs.Meanings.{declared_there}
-use Rattle.gb_reads.specs.declared.reads.TypedVar.{TypedVar}
-use Rattle.gb_reads.specs.Reads.{Vars}
-use Rattle.gb_premises.specs.Ordered.{is_same, placed, joined}
+use Rattle.gb_labels.specs.declared.reads.TypedVar.{TypedVar}
+use Rattle.gb_labels.specs.Reads.{Vars}
+use Rattle.gb_forms.specs.Ordered.{is_same, placed, joined}
 use Rattle.gb_sim.specs.Need.{is_among, without, concern, before, if_known, written_need, of_branches, statement_need, row_need, need}
 use Rattle.gb_sim.specs.Reads.{head_reads, term_reads, row_reads, statement_reads, body_reads, list_reads, unless_local, globals_among, procedure_reads, whole, reads_itself, reads_by, reads_if, reached_reads}
 use Rattle.gb_sim.specs.Sim.{read_in, variable_in, same_variable, first_known, equated, both, equated_at, equal_in, each_equal, variable_of, equality, with_equalities, equal_on, by_need, sim_row, IsAnswer}
-use Rattle.gb_shapes.specs.declared.place.Enumeration.{Enumeration}
+use Rattle.gb_print_names.specs.declared.bound_names.Enumeration.{Enumeration}
 use Rattle.gb_print.specs.Written.{is_variable_here, IsWrittenProcedure}
 use Rattle.gb_shown.specs.Named.{IsNamedType, IsNamedHead, IsNamed, AreNamed, IsNamedInstr, AreNamedInstrs, IsNamedSequent}
 use Rattle.gb_shown.specs.Rules.{IsNamedProcedure, AreNamedProcedures, KeepsNames}

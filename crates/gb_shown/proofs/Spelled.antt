@@ -22,7 +22,7 @@ use Rattle.gb_goal.specs.Scope.{Declarations, type_named}
 use Rattle.gb_names.specs.Names.{no_declared, path}
 use Rattle.gb_names.specs.Types.{Spelling, plain_type, up_to, bits_type, int_type, bracketed_type, option_type, map_type, all_spelled, tuple_of, tuple_type, declared_type, words, spelling, spelled, with_spellings, type_of, number_typing, number_type, with_number_types, type_or_number}
 use Rattle.gb_names.proofs.Nodes.{said_is}
-use Rattle.gb_shapes.specs.declared.place.Enumeration.{Enumeration}
+use Rattle.gb_print_names.specs.declared.bound_names.Enumeration.{Enumeration}
 use Rattle.gb_print.specs.Written.{in_range, IsWrittenType, AreWrittenTypes}
 use Rattle.gb_print.specs.Written as w
 use Rattle.gb_shown.specs.Named.{IsNamedType}

@@ -23,12 +23,12 @@ use Rattle.gb_terms.specs.declared.term.Subject.{Subject}
 use Rattle.gb_terms.specs.Heads.{is_judgment}
 use Rattle.gb_laws.specs.Operators.{IsOperator}
 use Rattle.gb_laws.specs.Typing.{types_of, IsHead}
-use Rattle.gb_shapes.specs.declared.place.Enumeration.{Enumeration}
-use Rattle.gb_shapes.specs.declared.place.Known.{Known}
-use Rattle.gb_shapes.specs.Names.{Name, Place}
+use Rattle.gb_print_names.specs.declared.bound_names.Enumeration.{Enumeration}
+use Rattle.gb_print_names.specs.declared.bound_names.Known.{Known}
+use Rattle.gb_print_names.specs.BoundNames.{Name, Place}
 use Rattle.gb_print_names.specs.Occurring.{inside, judgment_locals}
-use Rattle.gb_shapes.specs.Open.{is_open, is_int, type_read}
-use Rattle.gb_print_text.specs.Layout.{outcome, type_needed, is_mod_layer}
+use Rattle.gb_print_names.specs.Open.{is_open, is_int, type_read}
+use Rattle.gb_print.specs.Layout.{outcome, type_needed, is_mod_layer}
 use Rattle.gb_print.specs.Written.{is_path, is_name_text, is_variable_here, is_target_here, are_targets_here, IsWrittenType, IsWrittenIfAny, IsWrittenLiteral, are_weights_here, IsWrittenModule, AreWrittenModules, IsWrittenProcedure, below}
 use Rattle.gb_print.specs.Written as w
 use Rattle.gb_print.proofs.Tokens.{both}

@@ -35,7 +35,7 @@ use Rattle.gb_mods.specs.Exclusions.{exclusions}
 use Rattle.gb_typing.proofs.Given.{refused_at, refused_given, same_given}
 use Rattle.gb_prog.specs.AllValues.{in_memory, to_bound_values}
 use Rattle.gb_prog.specs.Writes.{TypedVariable}
-use Rattle.gb_parts.specs.Assigned.{taken}
+use Rattle.gb_prog.specs.Assigned.{taken}
 use Rattle.gb_full.specs.Loss.{first_loss}
 use Rattle.gb_full.specs.Lossless.{of_rest}
 use Rattle.gb_mods.specs.Written.{written}
@@ -43,7 +43,7 @@ use Rattle.gb_call.specs.Call.{Callee, outcome, before_call, call_goals, in_fron
 use Rattle.gb_call.specs.LastCall.{LastCall, of_statement, behind, last_call}
 use Rattle.gb_call.specs.Outcomes.{put_for, of_arguments, Outcome, global_values, result_bound, reads_result, bound_of, of_outcome, left_side, of_return, after_where, after_call, clash_after}
 use Rattle.gb_call.specs.Written.{glob_type, type_in, global_type, typed_before, with_types}
-use Rattle.gb_shapes.specs.declared.place.Enumeration.{Enumeration}
+use Rattle.gb_print_names.specs.declared.bound_names.Enumeration.{Enumeration}
 use Rattle.gb_print.specs.Written.{IsWrittenProcedure}
 use Rattle.gb_shown.specs.Named.{IsNamedType, IsNamed, IsNamedInstr, IsNamedGoal, IsNamedVariable}
 use Rattle.gb_shown.specs.Rules.{IsNamedProcedure, AreNamedProcedures, AreNamedGlobals, IsNamedContract, KeepsNames}

@@ -22,10 +22,10 @@ use Rattle.gb_walk.specs.declared.change.Change.TheVariants.{ToSide}
 use Rattle.gb_walk.specs.Change.{Changes, term_changed}
 use Rattle.gb_walk.specs.Sides.{reads_side}
 use Rattle.gb_typing.specs.Forms.{and_form, implies_form, not_form, equal_form, located, all_memory, every, every_pair}
-use Rattle.gb_parts.specs.Compared.{number, zero as zero_form, one as one_form, at_most_form, compared, certain_or_not}
-use Rattle.gb_parts.specs.Assigned.{parts_from, part_types, parts_at, taken, put_in, assigned_form}
-use Rattle.gb_parts.specs.Likely.{iff_form, as_likely}
-use Rattle.gb_shapes.specs.declared.place.Enumeration.{Enumeration}
+use Rattle.gb_prog.specs.Compared.{number, zero as zero_form, one as one_form, at_most_form, compared, certain_or_not}
+use Rattle.gb_prog.specs.Assigned.{parts_from, part_types, parts_at, taken, put_in, assigned_form}
+use Rattle.gb_prog.specs.Likely.{iff_form, as_likely}
+use Rattle.gb_print_names.specs.declared.bound_names.Enumeration.{Enumeration}
 use Rattle.gb_print.specs.Written.{in_range, is_numeral_here}
 use Rattle.gb_shown.specs.Named.{IsNamedType, AreNamedTypes, IsNamedResult, IsNamed}
 use Rattle.gb_shown.proofs.SpeltTypes.{out_bool}

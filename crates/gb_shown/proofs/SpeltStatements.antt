@@ -12,7 +12,7 @@ use Rattle.gb_terms.specs.declared.term.Head.TheBlock.{items_shown-the_row-Instr
 use Rattle.gb_terms.specs.declared.term.Head.TheOpen as layer
 use Rattle.gb_terms.specs.declared.term.Head.TheVariants.{Call, If, While, Call', If', While'}
 use Rattle.gb_terms.specs.declared.term.Head.TheViews.{roll-Instr, roll-out-Instr, outs-Call', outs-If', outs-While'}
-use Rattle.gb_shapes.specs.declared.place.Enumeration.{Enumeration}
+use Rattle.gb_print_names.specs.declared.bound_names.Enumeration.{Enumeration}
 use Rattle.gb_print.specs.Written.{is_target_here, IsWrittenProcedure}
 use Rattle.gb_shown.specs.Named.{IsNamed, AreNamed, IsNamedInstr, AreNamedInstrs}
 use mathlib.Core.Former.{Count, arity, this}

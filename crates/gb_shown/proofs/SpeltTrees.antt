@@ -20,7 +20,7 @@ use Rattle.gb_meaning.specs.Trees.{row}
 use Rattle.gb_meaning.specs.Commands.{terms_in}
 use Rattle.gb_meaning.proofs.Nodes.{term_is_node}
 use Rattle.gb_laws.proofs.Trees.{raised_at, term_raised_is, out_is}
-use Rattle.gb_shapes.specs.declared.place.Enumeration.{Enumeration}
+use Rattle.gb_print_names.specs.declared.bound_names.Enumeration.{Enumeration}
 use Rattle.gb_shown.specs.Named.{IsNamedResult, IsNamedSubject, IsNamedHead, IsNamed, AreNamed}
 use mathlib.Core.Former.{Count}
 

@@ -4,7 +4,7 @@ use Rattle.std.specs.List.{AllByRecursion}
 use Rattle.gb_goal.specs.Binders.{with_declared_modules}
 use Rattle.gb_goal.specs.Scope.{Declarations, entry_of, path_of}
 use Rattle.gb_goal.specs.declared.sequent.Sequent.{Sequent}
-use Rattle.gb_shapes.specs.declared.place.Enumeration.{Enumeration}
+use Rattle.gb_print_names.specs.declared.bound_names.Enumeration.{Enumeration}
 use Rattle.gb_print.specs.Written.{is_path}
 use Rattle.gb_shown.specs.Named.{IsNamedBind, IsNamedSequent}
 use Rattle.gb_shown.specs.Scopes.{IsNamedScope, IsNamedStatement}

@@ -32,7 +32,7 @@ use Rattle.gb_elab_stmt.specs.Statements.{sampling, assignment, tuple_assignment
 use Rattle.gb_elab_stmt.specs.Targets.{roomy, once, next_target, targets, type_of_all, variables_of, spelled_by}
 use Rattle.gb_elab_stmt.proofs.Stated.{stated_is}
 use Rattle.gb_elab_laws.proofs.Given.{given_bind, given_is, if_given, some_given}
-use Rattle.gb_shapes.specs.declared.place.Enumeration.{Enumeration}
+use Rattle.gb_print_names.specs.declared.bound_names.Enumeration.{Enumeration}
 use Rattle.gb_print.specs.Written.{is_target_here, is_variable_here, are_targets_here}
 use Rattle.gb_shown.specs.Named.{IsNamed, IsNamedInstr, IsNamedType, IsNamedResult}
 use Rattle.gb_shown.proofs.SpeltForms.{as_result}

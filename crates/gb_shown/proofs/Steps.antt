@@ -15,7 +15,7 @@ use Rattle.gb_goal.specs.Scope.{Declarations}
 use Rattle.gb_steps.specs.declared.step.Step.{Step}
 use Rattle.gb_elab_mod.specs.Steps.{step_given}
 use Rattle.gb_elab_laws.proofs.Given.{given_bind, given_is}
-use Rattle.gb_shapes.specs.declared.place.Enumeration.{Enumeration}
+use Rattle.gb_print_names.specs.declared.bound_names.Enumeration.{Enumeration}
 use Rattle.gb_shown.proofs.Sequents.{all_append}
 use Rattle.gb_shown.specs.Named.{IsNamedSequent}
 use Rattle.gb_shown.specs.Scopes.{IsNamedScope}

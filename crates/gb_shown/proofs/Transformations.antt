@@ -5,7 +5,7 @@ use Rattle.gb_steps.specs.declared.step.Acts.{Acts}
 use Rattle.gb_steps.specs.declared.step.Transformation.{Transformation}
 use Rattle.gb_steps.specs.declared.step.Transformation.TheVariants.{Swap, Kill, Decided, Unroll, Inline}
 use Rattle.gb_inline.specs.Rows.{transform_row}
-use Rattle.gb_shapes.specs.declared.place.Enumeration.{Enumeration}
+use Rattle.gb_print_names.specs.declared.bound_names.Enumeration.{Enumeration}
 use Rattle.gb_shown.specs.Rules.{AreNamedProcedures, KeepsNames}
 use Rattle.gb_shown.proofs.Inlined.{inline_keeps}
 use Rattle.gb_shown.proofs.Transformed.{swap_keeps, kill_keeps, guard_keeps, unroll_keeps}

@@ -19,17 +19,17 @@ use Rattle.gb_goal.specs.Scope.{Declarations}
 use Rattle.gb_mods.specs.Exclusions.{exclusions}
 use Rattle.gb_typing.proofs.Given.{refused_given, same_given}
 use Rattle.gb_typing.proofs.Lists.{if_shape}
-use Rattle.gb_parts.specs.OneBody.{OneBody}
+use Rattle.gb_prog.specs.OneBody.{OneBody}
 use Rattle.gb_trans.specs.Effects.{effects_of}
 use Rattle.gb_trans.specs.Places.{At, cut_at, statement_at, on_place}
 use Rattle.gb_trans.specs.Swap.{before, first, second, rest, exchanged, apart, exchange, moved, swapped, swap_row}
 use Rattle.gb_trans.specs.Transformed.{with_body, transforming}
-use Rattle.gb_premises.specs.Decided.{deciding}
-use Rattle.gb_guards.specs.Decided.{Decision, decision, decision_goals, decided, decided_row}
-use Rattle.gb_premises.specs.Turns.{turn}
-use Rattle.gb_guards.specs.Unrolled.{turn_before, unrolled, unroll_row}
-use Rattle.gb_kill.specs.Kill.{may_go, killed_at, killed, kill_row}
-use Rattle.gb_shapes.specs.declared.place.Enumeration.{Enumeration}
+use Rattle.gb_forms.specs.Decided.{deciding}
+use Rattle.gb_trans.specs.Decided.{Decision, decision, decision_goals, decided, decided_row}
+use Rattle.gb_forms.specs.Turns.{turn}
+use Rattle.gb_trans.specs.Unrolled.{turn_before, unrolled, unroll_row}
+use Rattle.gb_trans.specs.Kill.{may_go, killed_at, killed, kill_row}
+use Rattle.gb_print_names.specs.declared.bound_names.Enumeration.{Enumeration}
 use Rattle.gb_shown.specs.Named.{IsNamed, IsNamedInstr}
 use Rattle.gb_shown.specs.Rules.{KeepsNames}
 use Rattle.gb_shown.proofs.SpeltForms.{not_named}

@@ -17,8 +17,8 @@ use Rattle.gb_meaning.specs.Written.{type_of}
 use Rattle.gb_laws.specs.Typing.{OperatorType, Binder, IsBoundAt, IsMemory, IsSide, IsRead, IsHead, bound_by}
 use Rattle.gb_laws.specs.Typing.Binder.{program}
 use Rattle.gb_laws.specs.Typing as typed
-use Rattle.gb_shapes.specs.declared.place.Known.{Known}
-use Rattle.gb_shapes.specs.Names.{Place}
+use Rattle.gb_print_names.specs.declared.bound_names.Known.{Known}
+use Rattle.gb_print_names.specs.BoundNames.{Place}
 use Rattle.gb_print_names.specs.Names.{shown_name, typed_name}
 use Rattle.gb_print_names.specs.Occurring.{inside, judgment_locals}
 use Rattle.gb_print.specs.Written.{is_word, is_name_text, is_path, is_path_there, is_name_there, is_side_here, is_read_here, is_memory_here, below, IsWrittenProcedure, IsWrittenHead, IsWritten, AreWritten}

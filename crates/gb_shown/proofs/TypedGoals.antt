@@ -19,8 +19,8 @@ use Rattle.gb_goal.specs.Goal.Code.{body}
 use Rattle.gb_goal.specs.declared.sequent.Hyp.{Hyp}
 use Rattle.gb_goal.specs.declared.sequent.Sequent.{Sequent}
 use Rattle.gb_goal.specs.Scope as scope
-use Rattle.gb_holds.specs.Truth.{has_module}
-use Rattle.gb_holds.specs.Declared.{Declarations}
+use Rattle.gb_meaning.specs.Truth.{has_module}
+use Rattle.gb_meaning.specs.Declared.{Declarations}
 use Rattle.gb_laws.specs.Operators.{item}
 use Rattle.gb_laws.specs.Typing.{IsHead}
 use Rattle.gb_laws.specs.Typing as typed
@@ -34,10 +34,10 @@ use Rattle.gb_typing.proofs.Lifted.{sequent_outermost}
 use Rattle.gb_typing.proofs.Lists.{each_hidden, typed_if}
 use Rattle.gb_typing.proofs.Shapes.{code_back}
 use Rattle.gb_typing.proofs.TypedGoals.{conclusion_goal}
-use Rattle.gb_shapes.specs.declared.place.Enumeration.{Enumeration}
-use Rattle.gb_shapes.specs.Names.{Name, Place}
+use Rattle.gb_print_names.specs.declared.bound_names.Enumeration.{Enumeration}
+use Rattle.gb_print_names.specs.BoundNames.{Name, Place}
 use Rattle.gb_print_names.specs.Names.{typed_name}
-use Rattle.gb_print_text.specs.Goals.{place_of_goal}
+use Rattle.gb_print.specs.GoalText.{place_of_goal}
 use Rattle.gb_print.specs.Written.{is_path_there, is_name_there, AreWritten, IsWritten, IsWrittenHead, IsWrittenInstr, AreWrittenInstrs, AreWrittenForms}
 use Rattle.gb_print.specs.Written as w
 use Rattle.gb_print.specs.Goals.{AreWrittenVariables, no_variables, one_variable, AreWrittenMemories, no_memories, one_memory, AreWrittenHyps, IsWrittenGoal}

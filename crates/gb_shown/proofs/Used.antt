@@ -36,7 +36,7 @@ use Rattle.gb_elab_mod.specs.OtherLocals.{reads_other_locals}
 use Rattle.gb_elab_mod.specs.Taken.{is_taken}
 use Rattle.gb_elab_mod.specs.Uses.{hypothesis_named, is_memory, value_of, memory_of, about_named, said_of, said_of_all, name_of, about_value, about_memory, about_all, said_on, without_modules, said_by, lemma_named, used_named, used_at, used, hypothesis}
 use Rattle.gb_elab_laws.proofs.Given.{given_bind, given_is, if_none, if_refused, if_unbuilt, map_or_given, none_some, same_some, some_given}
-use Rattle.gb_shapes.specs.declared.place.Enumeration.{Enumeration}
+use Rattle.gb_print_names.specs.declared.bound_names.Enumeration.{Enumeration}
 use Rattle.gb_shown.specs.Named.{IsNamed, IsNamedType, IsNamedHead, IsNamedHyp, IsNamedVariable, IsNamedSequent}
 use Rattle.gb_shown.proofs.Changed.{changed_named}
 use Rattle.gb_shown.proofs.SpeltForms.{as_result}

@@ -13,8 +13,8 @@ use Rattle.gb_goal.specs.declared.sequent.Sequent.{Sequent}
 use Rattle.gb_steps.specs.declared.step.UseRule.{UseRule}
 use Rattle.gb_steps.specs.declared.step.UseRule.TheVariants.{Apply, Have}
 use Rattle.gb_typing.proofs.Given.{refused_at, same_given}
-use Rattle.gb_use.specs.Uses.{implication_at, ArePremises, IsAnswer}
-use Rattle.gb_shapes.specs.declared.place.Enumeration.{Enumeration}
+use Rattle.gb_amb.specs.Uses.{implication_at, ArePremises, IsAnswer}
+use Rattle.gb_print_names.specs.declared.bound_names.Enumeration.{Enumeration}
 use Rattle.gb_shown.specs.Named.{IsNamed, IsNamedSequent}
 use Rattle.gb_shown.specs.Rules.{IsNamedUse}
 use Rattle.gb_shown.proofs.SpeltTrees.{AllNamed, parts_named}

@@ -19,13 +19,13 @@ use Rattle.gb_goal.specs.Goal.Code.{body}
 use Rattle.gb_goal.specs.Goal.Goal.{hoare}
 use Rattle.gb_typing.specs.Context.{Context}
 use Rattle.gb_typing.specs.Programs.{IsStatement, AreStatements, EachStatement}
-use Rattle.gb_shapes.specs.declared.place.Enumeration.{Enumeration}
-use Rattle.gb_shapes.specs.Names.{Name, is_among}
+use Rattle.gb_print_names.specs.declared.bound_names.Enumeration.{Enumeration}
+use Rattle.gb_print_names.specs.BoundNames.{Name, is_among}
 use Rattle.gb_print_names.specs.Occurring.{judgment_locals}
 use Rattle.gb_print.specs.Written.{is_numeral_here}
-use Rattle.gb_variants.specs.Loops.{Loop, listed, statement_loops, row_loops, loops}
-use Rattle.gb_premises.specs.Variants.{less}
-use Rattle.gb_variants.specs.Variants.{variant_type, zero_of, above_zero, value_before, turning, fallen, falling, loop_goals, goals_of}
+use Rattle.gb_loops.specs.Loops.{Loop, listed, statement_loops, row_loops, loops}
+use Rattle.gb_forms.specs.Variants.{less}
+use Rattle.gb_loops.specs.Variants.{variant_type, zero_of, above_zero, value_before, turning, fallen, falling, loop_goals, goals_of}
 use Rattle.gb_shown.specs.Named.{IsNamedType, IsNamedResult, IsNamed, IsNamedInstr, AreNamedInstrs, IsNamedSequent}
 use Rattle.gb_shown.proofs.Marked.{primed_name, name_k}
 use Rattle.gb_shown.proofs.SpeltTypes.{out_mod}

@@ -30,7 +30,7 @@ use Rattle.gb_names.specs.Wanted.{wanted}
 use Rattle.gb_operators.specs.Kinds.{outcome}
 use Rattle.gb_operators.specs.Operators.{part_wanted}
 use Rattle.gb_weights.specs.Weights.{added, built_in_constant, constant_of, is_weighed, new_constant, no_constant, outcomes, stated, sum_of, weighed, weighed_all, weight_in, weights}
-use Rattle.gb_shapes.specs.declared.place.Enumeration.{Enumeration}
+use Rattle.gb_print_names.specs.declared.bound_names.Enumeration.{Enumeration}
 use Rattle.gb_print.specs.Written.{are_weights_here, in_range, is_weight_here, is_word_here}
 use Rattle.gb_shown.specs.Named.{IsNamedType, IsNamed}
 use Rattle.gb_shown.proofs.SpeltTrees.{node_named}

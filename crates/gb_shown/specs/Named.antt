@@ -20,8 +20,8 @@ use Rattle.gb_goal.specs.Goal.Code.{body, procedure}
 use Rattle.gb_goal.specs.Goal.Goal.{hoare, phoare, equiv, ambient}
 use Rattle.gb_goal.specs.declared.sequent.Hyp.{Hyp}
 use Rattle.gb_goal.specs.declared.sequent.Sequent.{Sequent}
-use Rattle.gb_shapes.specs.declared.place.Enumeration.{Enumeration}
-use Rattle.gb_print_text.specs.Layout.{outcome}
+use Rattle.gb_print_names.specs.declared.bound_names.Enumeration.{Enumeration}
+use Rattle.gb_print.specs.Layout.{outcome}
 use Rattle.gb_print.specs.Written.{is_name_text, is_path, in_range, is_whole_here, IsWrittenType, IsWrittenLiteral, are_weights_here, is_variable_here, is_target_here, are_targets_here, IsWrittenModule, IsWrittenProcedure}
 
 -- two types at least

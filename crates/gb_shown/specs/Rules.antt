@@ -40,7 +40,7 @@ use Rattle.gb_steps.specs.declared.step.Rule.TheVariants as rule
 use Rattle.gb_steps.specs.declared.step.UseRule.{UseRule}
 use Rattle.gb_steps.specs.declared.step.UseRule.TheVariants as use_rule
 use Rattle.gb_typing.specs.Programs.{locals_of}
-use Rattle.gb_shapes.specs.declared.place.Enumeration.{Enumeration}
+use Rattle.gb_print_names.specs.declared.bound_names.Enumeration.{Enumeration}
 use Rattle.gb_print_names.specs.Names.{constants}
 use Rattle.gb_print.specs.Written.{is_name_text, is_path, is_path_there, IsWrittenProcedure}
 use Rattle.gb_shown.specs.Named.{IsNamedType, IsNamed, IsNamedInstr, IsNamedGoal, IsNamedVariable}

@@ -22,7 +22,7 @@ use Rattle.gb_names.specs.declared.bindings.Kind.{Kind}
 use Rattle.gb_names.specs.declared.bindings.Kind.TheVariants.{Value, Memory}
 use Rattle.gb_names.specs.declared.setting.Variables.{Variables}
 use Rattle.gb_names.specs.declared.setting.Variables.TheVariants.{Absent, Own, Sides}
-use Rattle.gb_shapes.specs.declared.place.Enumeration.{Enumeration}
+use Rattle.gb_print_names.specs.declared.bound_names.Enumeration.{Enumeration}
 use Rattle.gb_print.specs.Written.{is_name_text, is_path, is_word_here, IsWrittenType}
 use Rattle.gb_shown.specs.Named.{IsNamedType, IsNamedResult, IsNamed, IsNamedVariable, IsNamedBind, IsNamedSequent}
 use Rattle.gb_shown.specs.Rules.{HasFirst, IsNamedProcedure}

@@ -3,7 +3,7 @@ use Rattle.std.specs.Prelude.{ℕ, Bool, List, [], ◌∷◌, Option, Some, None
 use Rattle.gb_core.specs.declared.place.Place.{Place}
 use Rattle.gb_goal.specs.Answers.Answer.{given}
 use Rattle.gb_goal.specs.declared.sequent.Sequent.{Sequent}
-use Rattle.gb_print_text.specs.Goals.{place_of_goal, printed_goal}
+use Rattle.gb_print.specs.GoalText.{place_of_goal, printed_goal}
 use Rattle.gb_print.specs.Goals.{IsGoalReadAs}
 use Rattle.gb_state.specs.declared.state.Claim.{Claim}
 use Rattle.gb_state.specs.Opened.{in_context}

@@ -24,10 +24,10 @@ use Rattle.gb_terms.specs.declared.term.Instr.{Instr}
 use Rattle.gb_terms.specs.declared.term.Cmd.{Cmd}
 use Rattle.gb_goal.specs.declared.sequent.Hyp.{Hyp}
 use Rattle.gb_goal.specs.declared.sequent.Sequent.{Sequent}
-use Rattle.gb_shapes.specs.Names.{Name, Place}
+use Rattle.gb_print_names.specs.BoundNames.{Name, Place}
 use Rattle.gb_print_names.specs.Occurring.{inside}
-use Rattle.gb_shapes.specs.Open.{type_of, is_open, is_int, type_read}
-use Rattle.gb_print_text.specs.Layout.{outcome, type_needed}
+use Rattle.gb_print_names.specs.Open.{type_of, is_open, is_int, type_read}
+use Rattle.gb_print.specs.Layout.{outcome, type_needed}
 use Rattle.gb_print.specs.Written.{is_name_text, is_path, in_range, is_whole_here, IsWrittenType, IsWrittenIfAny, IsWrittenLiteral, are_weights_here, is_variable_here, is_target_here, are_targets_here, is_bind_here, IsWrittenModule, IsWrittenProcedure, below}
 use Rattle.gb_print.specs.Goals.{AreWrittenVariables, AreWrittenMemories, AreWrittenBinds}
 

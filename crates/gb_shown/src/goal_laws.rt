@@ -3,11 +3,11 @@
 ghost use Rattle.std.specs.Prelude.{List};
 ghost use Rattle.gb_goal.specs.Scope as scope;
 ghost use Rattle.gb_goal.specs.declared.sequent.Sequent.{Sequent};
-ghost use Rattle.gb_holds.specs.Declared.{Declarations};
+ghost use Rattle.gb_meaning.specs.Declared.{Declarations};
 ghost use Rattle.gb_typing.specs.Sequents.{IsTypedSequent};
 ghost use Rattle.gb_typing.specs.Scopes.{context_of};
-ghost use Rattle.gb_shapes.specs.declared.place.Enumeration.{Enumeration};
-ghost use Rattle.gb_print_text.specs.Goals.{place_of_goal, printed_goal};
+ghost use Rattle.gb_print_names.specs.declared.bound_names.Enumeration.{Enumeration};
+ghost use Rattle.gb_print.specs.GoalText.{place_of_goal, printed_goal};
 ghost use Rattle.gb_print.specs.Goals.{IsWrittenGoal, IsGoalReadAs};
 ghost use Rattle.gb_shown.specs.Spelt.{IsSpeltGoal};
 

@@ -6,9 +6,9 @@ ghost use Rattle.gb_core.specs.declared.place.Place.{Place};
 ghost use Rattle.gb_goal.specs.Answers.Answer.{given};
 ghost use Rattle.gb_goal.specs.Scope as scope;
 ghost use Rattle.gb_goal.specs.declared.sequent.Sequent.{Sequent};
-ghost use Rattle.gb_holds.specs.Declared.{Declarations};
-ghost use Rattle.gb_shapes.specs.declared.place.Enumeration.{Enumeration};
-ghost use Rattle.gb_print_text.specs.Goals.{place_of_goal, printed_goal};
+ghost use Rattle.gb_meaning.specs.Declared.{Declarations};
+ghost use Rattle.gb_print_names.specs.declared.bound_names.Enumeration.{Enumeration};
+ghost use Rattle.gb_print.specs.GoalText.{place_of_goal, printed_goal};
 ghost use Rattle.gb_print.specs.Goals.{IsGoalReadAs};
 ghost use Rattle.gb_shown.specs.Spelt.{IsSpeltGoal};
 ghost use Rattle.gb_shown.specs.Named.{IsNamedInstr, IsNamedSequent};
@@ -21,7 +21,7 @@ ghost use Rattle.gb_typing.specs.Context.{Context};
 ghost use Rattle.gb_typing.specs.Programs.{EachStatement};
 ghost use Rattle.gb_typing.specs.Scopes.{context_of};
 ghost use Rattle.gb_typing.specs.Sequents.{IsTypedSequent};
-ghost use Rattle.gb_variants.specs.Variants.{goals_of};
+ghost use Rattle.gb_loops.specs.Variants.{goals_of};
 
 use crate::goal_laws::typed_goals_are_read;
 

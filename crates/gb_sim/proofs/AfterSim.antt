@@ -1,8 +1,8 @@
 -- Where `sim` leaves what stands, both sides give equal chances to events that are equal where the postcondition holds.
 use Rattle.std.proofs.Common.{◌≡◌, ◌*◌, Bool, List}
 use Rattle.std.specs.List.{AllByRecursion}
-use Rattle.gb_coupling.specs.WeightedList.{weight}
-use Rattle.gb_coupling.proofs.Events.{coupled_event}
+use Rattle.gb_dist.specs.WeightedList.{weight}
+use Rattle.gb_dist.proofs.CoupledEvents.{coupled_event}
 use Rattle.gb_terms.specs.declared.decl.TypedName.{TypedName}
 use Rattle.gb_terms.specs.declared.term.Instr.{Instr}
 use Rattle.gb_terms.specs.declared.term.Term.{Term}
@@ -16,7 +16,7 @@ use Rattle.gb_goal.specs.Goal.Code.{body}
 use Rattle.gb_goal.specs.Goal.Goal.{equiv}
 use Rattle.gb_goal.specs.Scope.{Declarations}
 use Rattle.gb_goal.specs.declared.sequent.Sequent.{Sequent}
-use Rattle.gb_holds.specs.Declared.{declared}
+use Rattle.gb_meaning.specs.Declared.{declared}
 use Rattle.gb_typing.specs.Fits.{IsSettingOf, IsStateOf}
 use Rattle.gb_typing.specs.Goals.{IsGoalOver}
 use Rattle.gb_typing.specs.Meaning.{Stands, denominator, run}

@@ -11,9 +11,9 @@ use Rattle.gb_meaning.specs.Memory.{Memory}
 use Rattle.gb_meaning.specs.Values.{Types}
 use Rattle.gb_laws.specs.Cells.{Cell, Cells, In, Agree, Among, cells_of}
 use Rattle.gb_laws.proofs.Cells.{in_left, in_right}
-use Rattle.gb_reads.specs.declared.reads.TypedVar.{TypedVar}
-use Rattle.gb_reads.specs.Reads.{Vars}
-use Rattle.gb_premises.specs.Ordered.{is_same, joined, placed}
+use Rattle.gb_labels.specs.declared.reads.TypedVar.{TypedVar}
+use Rattle.gb_labels.specs.Reads.{Vars}
+use Rattle.gb_forms.specs.Ordered.{is_same, joined, placed}
 use Rattle.gb_sim.specs.Need.{is_among, without}
 
 -- the cells of variables

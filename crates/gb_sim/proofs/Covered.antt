@@ -43,7 +43,7 @@ use Rattle.gb_typing.specs.Modules.{ProcedureType}
 use Rattle.gb_typing.specs.Programs.{AreArguments, AreStatements, EachStatement, IsCall, IsProcedure}
 use Rattle.gb_typing.specs.Typing.{AreTyped, IsNamed, IsTyped, first, middle, last}
 use Rattle.gb_laws.specs.Typing.{types_of}
-use Rattle.gb_reads.specs.Reads.{Vars}
+use Rattle.gb_labels.specs.Reads.{Vars}
 use Rattle.gb_trans.proofs.Within.{ReadsWithin}
 use Rattle.gb_sim.specs.Reads.{term_reads, row_reads, body_reads, list_reads, globals_among, head_reads, reads_by, reads_itself, unless_local}
 use Rattle.gb_sim.proofs.Agreeing.{cells, cells_append}

@@ -13,7 +13,7 @@ use Rattle.gb_walk.specs.Clash.{Exclusions}
 use Rattle.gb_goal.specs.Scope.{Declarations}
 use Rattle.gb_mods.specs.Called.{calls, row_calls, statement_calls}
 use Rattle.gb_mods.proofs.OrderSteps.{front_last}
-use Rattle.gb_reads.specs.Reads.{Vars}
+use Rattle.gb_labels.specs.Reads.{Vars}
 use Rattle.gb_sim.specs.Need.{called_need, if_known, loop_need, need, of_branches, row_need, statement_need}
 use Rattle.gb_sim.specs.Reads.{each_reads, list_reads, term_reads}
 use Rattle.gb_sim.specs.Sim.{each_equal, equal_in, equated_at}

@@ -8,7 +8,7 @@ use Rattle.gb_terms.specs.declared.term.Head.TheBlock as B
 use Rattle.gb_terms.specs.declared.term.Head.TheVariants.{Call, If, While}
 use Rattle.gb_terms.specs.declared.term.Instr.{Instr, Row_of-Instr, end_of-Instr, more_of-Instr}
 use Rattle.gb_walk.proofs.ClashSteps.{out_row}
-use Rattle.gb_reads.specs.Reads.{Vars}
+use Rattle.gb_labels.specs.Reads.{Vars}
 use Rattle.gb_sim.specs.Reads.{body_reads, each_reads, head_reads, list_reads, row_reads, statement_reads, term_reads}
 use mathlib.Core.Former.{Count}
 

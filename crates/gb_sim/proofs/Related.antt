@@ -46,9 +46,9 @@ use Rattle.gb_typing.proofs.Forms.{and_typed, and_use, form_made}
 use Rattle.gb_typing.proofs.Literals.{bool_literal}
 use Rattle.gb_typing.proofs.Made.{made_node}
 use Rattle.gb_typing.proofs.Supported.{equal_values}
-use Rattle.gb_reads.specs.declared.reads.TypedVar.{TypedVar}
-use Rattle.gb_reads.specs.Reads.{Vars}
-use Rattle.gb_premises.specs.Ordered.{is_same, joined}
+use Rattle.gb_labels.specs.declared.reads.TypedVar.{TypedVar}
+use Rattle.gb_labels.specs.Reads.{Vars}
+use Rattle.gb_forms.specs.Ordered.{is_same, joined}
 use Rattle.gb_sim.specs.Sim.{both, each_equal, equal_in, equal_on, equality, equated, equated_at, first_known, read_in, same_variable, variable_in, variable_of, with_equalities}
 use Rattle.gb_sim.proofs.Agreeing.{AgreeOn, agree_new, agree_old, cells, in_either, same_is}
 use Rattle.gb_sim.proofs.Typed.{AreReadable, IsReadable, all_joined}

@@ -2,8 +2,8 @@
 use Rattle.std.proofs.Common.{◌≡◌, true, List, [], ◌∷◌, Option, Some, None, refl, sym, subst}
 use Rattle.std.specs.List.{AllByRecursion}
 use Rattle.gb_core.specs.declared.refusal.Why.TheVariants.{Shape}
-use Rattle.gb_coupling.specs.Coupling.{Coupling}
-use Rattle.gb_coupling.proofs.Basic.{coupling_weakening}
+use Rattle.gb_dist.specs.Coupling.{Coupling}
+use Rattle.gb_dist.proofs.Basic.{coupling_weakening}
 use Rattle.gb_terms.specs.declared.decl.Proc.{Proc}
 use Rattle.gb_terms.specs.declared.decl.TypedName.{TypedName}
 use Rattle.gb_terms.specs.declared.module.ProcRef.{ProcRef}
@@ -21,7 +21,7 @@ use Rattle.gb_goal.specs.Scope.{Declarations, procedure_of}
 use Rattle.gb_mods.specs.Exclusions.{exclusions}
 use Rattle.gb_adversaries.proofs.KeptOff.{kept_off}
 use Rattle.gb_goal.specs.declared.sequent.Sequent.{Sequent}
-use Rattle.gb_holds.specs.Declared.{declared}
+use Rattle.gb_meaning.specs.Declared.{declared}
 use Rattle.gb_typing.specs.Context.{Context}
 use Rattle.gb_typing.specs.Forms.{every_pair, implies_form}
 use Rattle.gb_typing.specs.Goals.{IsGoalOver, IsTypedGoal}
@@ -44,7 +44,7 @@ use Rattle.gb_adversaries.proofs.Meanings.{means_there}
 use Rattle.gb_adversaries.proofs.There.{abstract_named}
 use Rattle.gb_prog.specs.Ends.{LoopsEnd}
 use Rattle.gb_full.proofs.Operators.{scope_full}
-use Rattle.gb_reads.specs.Reads.{Vars}
+use Rattle.gb_labels.specs.Reads.{Vars}
 use Rattle.gb_sim.specs.Need.{if_known, need}
 use Rattle.gb_sim.specs.Sim.{AreSame, by_need, equal_in, equal_on, sim_row}
 use Rattle.gb_sim.proofs.Related.{equal_holds, equal_readable, equal_says, equal_typed}

@@ -7,13 +7,13 @@ use Rattle.std.specs.Option.{option_map}
 use Rattle.gb_core.specs.declared.ty.Ty.TheVariants as ty
 use Rattle.gb_core.specs.declared.value.Value.{Value}
 use Rattle.gb_core.specs.declared.var.Var.{Var}
-use Rattle.gb_coupling.specs.WeightedList.{WeightedList, Every, IsPositive, On, bind, dmap, scale, total, unit}
-use Rattle.gb_coupling.specs.Coupling.{Coupling}
-use Rattle.gb_coupling.proofs.Basic.{coupling_product, coupling_rescaling}
-use Rattle.gb_coupling.proofs.Entries.{On-dmap}
-use Rattle.gb_coupling.proofs.Masses.{mass-dmap}
-use Rattle.gb_coupling.proofs.Monad.{bind-unit_right}
-use Rattle.gb_coupling.proofs.Sequence.{coupling_sequence}
+use Rattle.gb_dist.specs.WeightedList.{WeightedList, Every, IsPositive, On, bind, dmap, scale, total, unit}
+use Rattle.gb_dist.specs.Coupling.{Coupling}
+use Rattle.gb_dist.proofs.Basic.{coupling_product, coupling_rescaling}
+use Rattle.gb_dist.proofs.Entries.{On-dmap}
+use Rattle.gb_dist.proofs.Masses.{mass-dmap}
+use Rattle.gb_dist.proofs.Monad.{bind-unit_right}
+use Rattle.gb_dist.proofs.Sequence.{coupling_sequence}
 use Rattle.gb_terms.specs.declared.decl.Proc.{Proc}
 use Rattle.gb_terms.specs.declared.decl.TypedName.{TypedName}
 use Rattle.gb_terms.specs.declared.module.ProcRef.{ProcRef}
@@ -62,9 +62,9 @@ use Rattle.gb_typing.specs.Programs.{AreStatements, EachStatement, IsCall, IsExp
 use Rattle.gb_typing.specs.Typing.{IsTyped}
 use Rattle.gb_typing.proofs.Fitting.{fits_program, state_inside}
 use Rattle.gb_typing.proofs.Substituted.{term_has}
-use Rattle.gb_reads.specs.Reads.{Vars}
+use Rattle.gb_labels.specs.Reads.{Vars}
 use Rattle.gb_trans.proofs.Within.{ReadsWithin, run_within}
-use Rattle.gb_premises.specs.Ordered.{joined}
+use Rattle.gb_forms.specs.Ordered.{joined}
 use Rattle.gb_sim.specs.Need.{before, concern, if_known, need, of_branches, row_need, statement_need, without, written_need}
 use Rattle.gb_sim.specs.Reads.{body_reads, reached_reads, reads_by, reads_if, row_reads, term_reads}
 use Rattle.gb_sim.proofs.Agreeing.{AgreeOn, agree_new, agree_old, cells}

@@ -35,9 +35,9 @@ use Rattle.gb_typing.specs.Modules.{ProcedureType}
 use Rattle.gb_typing.specs.Programs.{AreArguments, AreStatements, EachStatement, IsCall, IsExpression, IsProcedure, IsStatement, locals_of}
 use Rattle.gb_typing.specs.Typing.{AreTyped, IsIn, IsNamed, IsTyped, first, middle, last}
 use Rattle.gb_typing.proofs.Uses.{nothing_in}
-use Rattle.gb_reads.specs.declared.reads.TypedVar.{TypedVar}
-use Rattle.gb_reads.specs.Reads.{Vars}
-use Rattle.gb_premises.specs.Ordered.{is_same, joined, placed}
+use Rattle.gb_labels.specs.declared.reads.TypedVar.{TypedVar}
+use Rattle.gb_labels.specs.Reads.{Vars}
+use Rattle.gb_forms.specs.Ordered.{is_same, joined, placed}
 use Rattle.gb_sim.specs.Need.{before, concern, is_among, need, row_need, statement_need, without, written_need}
 use Rattle.gb_sim.specs.Reads.{body_reads, globals_among, head_reads, list_reads, reached_reads, reads_by, reads_itself, row_reads, statement_reads, term_reads, unless_local}
 use Rattle.gb_sim.proofs.Slices.{are_reached, both_known, known, mapped}

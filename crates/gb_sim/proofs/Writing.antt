@@ -27,14 +27,14 @@ use Rattle.gb_laws.proofs.Kept.{assigned_keeps, kept_agrees, kept_self}
 use Rattle.gb_laws.proofs.Leaves.{assigned_left}
 use Rattle.gb_laws.specs.Operators.{parts_in}
 use Rattle.gb_laws.specs.Programs.{HaveTypes, Take, variable_type}
-use Rattle.gb_holds.specs.Footprints.{is_global}
+use Rattle.gb_meaning.specs.Footprints.{is_global}
 use Rattle.gb_typing.specs.Context.{Context, erased}
 use Rattle.gb_typing.specs.Forms.{IsKeptOff}
 use Rattle.gb_typing.proofs.ClashFree.{no_share, none_both}
 use Rattle.gb_typing.proofs.Globals.{none_of, same_global}
-use Rattle.gb_parts.proofs.Parts.{as_many, same_length}
-use Rattle.gb_reads.specs.declared.reads.TypedVar.{TypedVar}
-use Rattle.gb_reads.specs.Reads.{Vars}
+use Rattle.gb_prog.proofs.Parts.{as_many, same_length}
+use Rattle.gb_labels.specs.declared.reads.TypedVar.{TypedVar}
+use Rattle.gb_labels.specs.Reads.{Vars}
 use Rattle.gb_sim.specs.Need.{concern, concerns, is_among, without}
 use Rattle.gb_sim.proofs.Agreeing.{AgreeOn, IsLeaving, cells, in_either, kept_or_left}
 

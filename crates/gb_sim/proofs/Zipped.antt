@@ -1,7 +1,7 @@
 -- Weighted lists that agree entry by entry are coupled.
 use Rattle.std.proofs.Common.{◌≡◌, ℕ, ◌*◌, ◌+◌, ◌<◌, [], ◌∷◌, refl, ap}
-use Rattle.gb_coupling.specs.WeightedList.{WeightedList, IsPositive, On, mass}
-use Rattle.gb_coupling.specs.Coupling.{Coupling}
+use Rattle.gb_dist.specs.WeightedList.{WeightedList, IsPositive, On, mass}
+use Rattle.gb_dist.specs.Coupling.{Coupling}
 use Rattle.gb_laws.specs.Pairs.{Zip}
 
 module _ {A B : Type 0} (R : A → B → Type 0) where

@@ -12,9 +12,9 @@ use Rattle.gb_walk.specs.Clash.{Exclusions, clashes}
 use Rattle.gb_goal.specs.Scope.{Declarations}
 use Rattle.gb_mods.specs.Called.{row_calls}
 use Rattle.gb_full.specs.Loss.{may_lose}
-use Rattle.gb_reads.specs.declared.reads.TypedVar.{TypedVar}
-use Rattle.gb_reads.specs.Reads.{Vars}
-use Rattle.gb_premises.specs.Ordered.{joined}
+use Rattle.gb_labels.specs.declared.reads.TypedVar.{TypedVar}
+use Rattle.gb_labels.specs.Reads.{Vars}
+use Rattle.gb_forms.specs.Ordered.{joined}
 use Rattle.gb_sim.specs.Reads.{term_reads, row_reads, body_reads, reached_reads}
 
 abbrev pub is_among : List Var → TypedVar → Bool

@@ -17,7 +17,7 @@ use Rattle.gb_mods.specs.declared.meant.Meant.{Meant}
 use Rattle.gb_mods.specs.declared.meant.Meant.TheVariants.{Unknown, Declared, Any}
 use Rattle.gb_mods.specs.Called.{all_reached}
 use Rattle.gb_mods.specs.Meant.{in_front, meant_by}
-use Rattle.gb_reads.specs.Reads.{Vars}
+use Rattle.gb_labels.specs.Reads.{Vars}
 
 -- the variable that a head of this type reads itself
 abbrev pub head_reads : Head → Ty → Vars

@@ -23,9 +23,9 @@ use Rattle.gb_goal.specs.Rows.{Row, refusing, stepped}
 use Rattle.gb_goal.specs.Scope.{Declarations}
 use Rattle.gb_goal.specs.declared.sequent.Sequent.{Sequent}
 use Rattle.gb_typing.specs.Forms.{and_form, equal_form, every_pair, implies_form}
-use Rattle.gb_reads.specs.declared.reads.TypedVar.{TypedVar}
-use Rattle.gb_reads.specs.Reads.{Vars}
-use Rattle.gb_premises.specs.Ordered.{is_same, joined}
+use Rattle.gb_labels.specs.declared.reads.TypedVar.{TypedVar}
+use Rattle.gb_labels.specs.Reads.{Vars}
+use Rattle.gb_forms.specs.Ordered.{is_same, joined}
 use Rattle.gb_sim.specs.Need.{if_known, need}
 use Rattle.gb_mods.specs.Exclusions.{exclusions}
 

@@ -2,7 +2,7 @@
 
 ghost use Rattle.std.specs.Prelude.{◌≡◌, ◌*◌, Bool, List};
 ghost use Rattle.std.specs.List.{AllByRecursion};
-ghost use Rattle.gb_coupling.specs.WeightedList.{weight};
+ghost use Rattle.gb_dist.specs.WeightedList.{weight};
 ghost use Rattle.gb_terms.specs.declared.decl.TypedName.{TypedName};
 ghost use Rattle.gb_terms.specs.declared.term.Instr.{Instr};
 ghost use Rattle.gb_terms.specs.declared.term.Term.{Term};
@@ -16,7 +16,7 @@ ghost use Rattle.gb_goal.specs.Goal.Code.{body};
 ghost use Rattle.gb_goal.specs.Goal.Goal.{equiv};
 ghost use Rattle.gb_goal.specs.Scope.{Declarations};
 ghost use Rattle.gb_goal.specs.declared.sequent.Sequent.{Sequent};
-ghost use Rattle.gb_holds.specs.Declared.{declared};
+ghost use Rattle.gb_meaning.specs.Declared.{declared};
 ghost use Rattle.gb_typing.specs.Fits.{IsSettingOf, IsStateOf};
 ghost use Rattle.gb_typing.specs.Goals.{IsGoalOver};
 ghost use Rattle.gb_typing.specs.Meaning.{Stands, denominator, run};

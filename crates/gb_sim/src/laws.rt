@@ -6,7 +6,7 @@ ghost use Rattle.gb_goal.specs.Answers.Answer.{given};
 ghost use Rattle.gb_goal.specs.Goal.{Goal};
 ghost use Rattle.gb_goal.specs.Scope.{Declarations};
 ghost use Rattle.gb_goal.specs.declared.sequent.Sequent.{Sequent};
-ghost use Rattle.gb_holds.specs.Declared.{declared};
+ghost use Rattle.gb_meaning.specs.Declared.{declared};
 ghost use Rattle.gb_meaning.specs.Setting.{Setting};
 ghost use Rattle.gb_prog.specs.Ends.{LoopsEnd};
 ghost use Rattle.gb_terms.specs.declared.decl.TypedName.{TypedName};

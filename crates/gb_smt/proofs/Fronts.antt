@@ -5,7 +5,7 @@ use Rattle.gb_terms.specs.declared.term.Term.{Term, Term', Row_of-Term, end_of-T
 use Rattle.gb_terms.specs.declared.term.Head.{Head}
 use Rattle.gb_terms.specs.declared.term.Head.TheVariants as head
 use Rattle.gb_terms.specs.declared.term.Head.TheViews.{out-Term, outs-struct-Term}
-use Rattle.gb_holds.specs.Truth.{has_module, last_has_module}
+use Rattle.gb_meaning.specs.Truth.{has_module, last_has_module}
 use Rattle.gb_smt.specs.ByEquality.{is_over_modules, goes_on, last_of}
 
 last_row : (n : _) (r : Row_of-Term n) → last_has_module r ≡ last_of (items-the_row-Term n r)

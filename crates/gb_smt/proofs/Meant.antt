@@ -9,7 +9,7 @@ use Rattle.gb_meaning.specs.State.{State}
 use Rattle.gb_meaning.specs.Terms.{Speaks, val}
 use Rattle.gb_goal.specs.Scope.{Declarations}
 use Rattle.gb_mods.specs.Exclusions.{exclusions}
-use Rattle.gb_reads.specs.Memories.{AreKeptApart}
+use Rattle.gb_labels.specs.Memories.{AreKeptApart}
 use Rattle.gb_eval.specs.Findings.{Comes, ◌>>=◌}
 use Rattle.gb_eval.specs.Findings.Comes.{found, unknown, overflow}
 use Rattle.gb_eval.specs.Eval.{Environment, operators_of}

@@ -26,7 +26,7 @@ use Rattle.gb_equality.proofs.Products.{product, are_finite, product_both, card_
 use Rattle.gb_equality.specs.Sizes.{Tys, of_memory, read_by_only}
 use Rattle.gb_smt.specs.declared.claims.Claim.{Claim}
 use Rattle.gb_walk.specs.Layers.{seen_by, where_last}
-use Rattle.gb_reads.specs.Reads as reads
+use Rattle.gb_labels.specs.Reads as reads
 use Rattle.gb_smt.specs.Width.{only_reads, bound_at, bound_by, bound_of, bound_types, all_bound, types_in, assignments_of, is_known_claim}
 use Rattle.gb_smt.proofs.Layers.{bound_out}
 use mathlib.Core.Former.{Count}

@@ -15,7 +15,7 @@ use Rattle.gb_smt.specs.declared.apply.Open.{Open}
 use Rattle.gb_smt.specs.declared.apply.Trial.{Trial}
 use Rattle.gb_smt.specs.declared.apply.Tried.{Tried}
 use Rattle.gb_smt.specs.declared.apply.Tried.TheVariants.{Closed}
-use Rattle.gb_members.specs.Counted.{is_tried}
+use Rattle.gb_closing.specs.Counted.{is_tried}
 use Rattle.gb_equality.specs.Sizes.{greater}
 use Rattle.gb_labels.specs.Labels.{Labels}
 use Rattle.gb_smt.specs.Width.{width_of}

@@ -22,7 +22,7 @@ use Rattle.gb_smt.specs.declared.apply.Open.{Open}
 use Rattle.gb_num.specs.declared.whole.Overflow as number
 use Rattle.gb_smt.specs.Equations.{used_up}
 use Rattle.gb_smt.specs.Claims.{claims_of}
-use Rattle.gb_members.specs.Counted.{is_tried}
+use Rattle.gb_closing.specs.Counted.{is_tried}
 use Rattle.gb_equality.specs.Sizes.{greater}
 use Rattle.gb_labels.specs.Labels.{Labels}
 use Rattle.gb_smt.specs.Width.{most_of, width_of}

@@ -15,7 +15,7 @@ use Rattle.gb_mods.specs.Exclusions.{exclusions}
 use Rattle.gb_meaning.specs.Names.{Name}
 use Rattle.gb_eval.specs.declared.script.Script.{Script}
 use Rattle.gb_eval.specs.Script.{opened}
-use Rattle.gb_reads.specs.Reads.{reads_of}
+use Rattle.gb_labels.specs.Reads.{reads_of}
 use Rattle.gb_eval.specs.Known.{is_known, known_of}
 use Rattle.gb_equality.specs.Sizes.{Tys, of_memory}
 use Rattle.gb_smt.specs.declared.claims.Claim.{Claim}

@@ -2,7 +2,7 @@
 
 ghost use Rattle.std.specs.Prelude.{◌≡◌, ◌↔◌, IfOk, IsTrue};
 ghost use Rattle.std.specs.List.{list_any};
-ghost use Rattle.gb_holds.specs.Truth.{has_module};
+ghost use Rattle.gb_meaning.specs.Truth.{has_module};
 ghost use Rattle.gb_smt.specs.Equations.{used_up};
 ghost use Rattle.gb_smt.specs.ByEquality.{ClosesByEquality, is_over_modules, goes_on, last_of, has_no_form};
 

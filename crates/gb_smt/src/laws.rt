@@ -13,7 +13,7 @@ ghost use Rattle.gb_eval.specs.Findings.Comes.{found};
 ghost use Rattle.gb_eval.specs.Eval.{operators_of};
 ghost use Rattle.gb_eval.specs.Meant.{AreOperators};
 ghost use Rattle.gb_mods.specs.Exclusions.{exclusions};
-ghost use Rattle.gb_reads.specs.Memories.{AreKeptApart};
+ghost use Rattle.gb_labels.specs.Memories.{AreKeptApart};
 ghost use Rattle.gb_smt.specs.declared.claims.Claim.{Claim};
 ghost use Rattle.gb_smt.specs.declared.leaves.Leaf.{Leaf};
 ghost use Rattle.gb_smt.specs.declared.assign.Found.{Found};

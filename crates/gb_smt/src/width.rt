@@ -8,6 +8,7 @@ ghost use Rattle.gb_meaning.specs.Written.{type_of};
 ghost use Rattle.gb_smt.specs.Width.{bound_by, bound_in, bound_types, is_known_claim, assignments_of, width_of};
 
 use crate::claims::Claim;
+use gb_closing::counted::card_at;
 use gb_core::name::Name;
 use gb_core::value::Card;
 use gb_equality::sizes::{
@@ -16,7 +17,6 @@ use gb_equality::sizes::{
 use gb_eval::known::{are_known, is_known};
 use gb_eval::script::{Script, body_of, inside, script_of};
 use gb_goal::scope::Scope;
-use gb_members::counted::card_at;
 use gb_terms::term::{Head, Term};
 use gb_types::size::{MANY, size};
 use std::alloc::{AllocError, Global};

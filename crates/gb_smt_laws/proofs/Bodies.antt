@@ -18,9 +18,9 @@ use Rattle.gb_meaning.specs.Operators.{outcome_type, key_type}
 use Rattle.gb_meaning.specs.Setting.{Meaning, Setting}
 use Rattle.gb_meaning.specs.Terms.{denominator, quiet, val}
 use Rattle.gb_meaning.specs.Values.{Global, values}
-use Rattle.gb_holds.specs.Declared.{Declarations, Declaration, declaration_of, declared, operator, abstract_operator}
-use Rattle.gb_holds.specs.Settings.{Table, Interpretation, types_of, bare, at_arguments, with_declaration, with_operators, setting}
-use Rattle.gb_holds.proofs.SettingTypes.{setting-types}
+use Rattle.gb_meaning.specs.Declared.{Declarations, Declaration, declaration_of, declared, operator, abstract_operator}
+use Rattle.gb_meaning.specs.Settings.{Table, Interpretation, types_of, bare, at_arguments, with_declaration, with_operators, setting}
+use Rattle.gb_meaning.proofs.SettingTypes.{setting-types}
 use Rattle.gb_typing.specs.Agreement.{SameValues, SameGlobals, SameFootprint, SameRead, SameOperator, SameLeaf, SameTerm, SameTerms}
 use Rattle.gb_typing.proofs.SameTerms.{term_same, denominator_same}
 use Rattle.gb_laws.specs.Typing.{OperatorType, types_of as argument_types, IsHead, inner}

@@ -25,14 +25,14 @@ use Rattle.gb_eval.specs.Findings.Comes.{found}
 use Rattle.gb_goal.specs.Scope.{Declarations}
 use Rattle.gb_eval.specs.Known.{is_known, known_of}
 use Rattle.gb_mods.specs.Exclusions.{exclusions}
-use Rattle.gb_reads.specs.Memories.{AreKeptApart}
+use Rattle.gb_labels.specs.Memories.{AreKeptApart}
 use Rattle.gb_eval.specs.Eval.{operators_of}
 use Rattle.gb_eval.specs.Meant.{AreOperators}
 use Rattle.gb_smt.specs.declared.claims.Claim.{Claim}
 use Rattle.gb_closing.specs.Linked.{Vars}
 use Rattle.gb_equality.specs.Variables.{variables_in}
 use Rattle.gb_smt.specs.Claims.{claim_of}
-use Rattle.gb_members.specs.Counted.{is_tried}
+use Rattle.gb_closing.specs.Counted.{is_tried}
 use Rattle.gb_smt.specs.Width.{assignments_of, width_of, is_known_claim}
 use Rattle.gb_smt.specs.Assign.{assignment, environment_of, with_values, truth_under, IsTrueEverywhere}
 use Rattle.gb_smt.specs.Meant.{AreTrue, IsRight}

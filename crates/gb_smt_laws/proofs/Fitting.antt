@@ -27,14 +27,14 @@ use Rattle.gb_laws.specs.Typing.{Binder, types_of, IsHead}
 use Rattle.gb_laws.specs.Typing.Binder.{value, index, memory}
 use Rattle.gb_laws.proofs.Denominators.{denominator_one}
 use Rattle.gb_laws.proofs.Sizes.{first_has, glob_in}
-use Rattle.gb_holds.specs.Programs.{AreOnce}
-use Rattle.gb_holds.specs.Truth.{last_has_module, Choice}
+use Rattle.gb_meaning.specs.Programs.{AreOnce}
+use Rattle.gb_meaning.specs.Truth.{last_has_module, Choice}
 use Rattle.gb_typing.specs.Context.{Frame, Context, erased, frame_of, within}
 use Rattle.gb_typing.specs.Typing.{IsIn, IsNamed, last, IsTyped, AreTyped}
 use Rattle.gb_typing.specs.Formulas.{IsFirstForm, IsFormula, IsLastFormula}
 use Rattle.gb_typing.specs.Sequents.{IsConclusion}
 use Rattle.gb_typing.proofs.Erased.{erased_typed}
-use Rattle.gb_reads.specs.Memories.{IsReadable}
+use Rattle.gb_labels.specs.Memories.{IsReadable}
 use Rattle.gb_smt_laws.specs.Reading.{Variables, no_variables, Reading, IsReadAt, inner, AreHeld}
 use Rattle.gb_smt_laws.specs.Fits.{IsOfValues, Fits, AllFit, OnlyFits, BothFit}
 use Rattle.gb_smt_laws.proofs.Equations.{none_some, some_some}

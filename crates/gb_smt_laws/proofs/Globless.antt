@@ -5,8 +5,8 @@ use Rattle.gb_core.specs.declared.ty.Ty.{Ty, Row_of-Ty, end_of-Ty, more_of-Ty}
 use Rattle.gb_core.specs.declared.ty.Ty.TheVariants as ty
 use Rattle.gb_meaning.specs.Values.{Global}
 use Rattle.gb_laws.specs.Finite.{AreFiniteWith, IsVariableType, AreVariables}
-use Rattle.gb_holds.specs.Globs.{IsGlobless, EachGlobIn}
-use Rattle.gb_reads.specs.Memories.{AreGlobless}
+use Rattle.gb_meaning.specs.Globs.{IsGlobless, EachGlobIn}
+use Rattle.gb_labels.specs.Memories.{AreGlobless}
 use mathlib.Core.Former.{Count}
 
 mutual

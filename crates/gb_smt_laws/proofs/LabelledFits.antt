@@ -16,7 +16,7 @@ use Rattle.gb_meaning.specs.Setting.{Setting}
 use Rattle.gb_meaning.specs.Setting.Meaning.{finite}
 use Rattle.gb_meaning.specs.State.{State}
 use Rattle.gb_meaning.specs.Terms.{read_at}
-use Rattle.gb_reads.specs.Memories.{IsReadable}
+use Rattle.gb_labels.specs.Memories.{IsReadable}
 use Rattle.gb_labels.specs.Labels.{Labels, labelled_ty}
 use Rattle.gb_labels.specs.Labelled.{labelled, all_labelled}
 use Rattle.gb_smt_laws.specs.Labels.{AreLabels}

@@ -10,7 +10,7 @@ use Rattle.gb_core.specs.declared.ty.Ty.TheVariants as ty
 use Rattle.gb_core.specs.declared.value.Value.{Value}
 use Rattle.gb_core.specs.declared.value.Value.TheVariants.{Num}
 use Rattle.gb_types.specs.Numbering.{number_of}
-use Rattle.gb_coupling.specs.WeightedList.{WeightedList, bit}
+use Rattle.gb_dist.specs.WeightedList.{WeightedList, bit}
 use Rattle.gb_terms.specs.Make as make
 use Rattle.gb_terms.specs.declared.op.Op.{Op}
 use Rattle.gb_terms.specs.declared.op.Op.TheVariants as op

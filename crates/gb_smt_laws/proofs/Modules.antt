@@ -5,7 +5,7 @@ use Rattle.std.proofs.lemmas.Bool.{false≢true, and_parts}
 use Rattle.gb_terms.specs.declared.op.Op.TheVariants as op
 use Rattle.gb_terms.specs.declared.term.Term.{Term, Term', Row_of-Term, end_of-Term, more_of-Term, end_of-Head, more_of-Head}
 use Rattle.gb_terms.specs.declared.term.Head.TheVariants as head
-use Rattle.gb_holds.specs.Truth.{has_module, last_has_module}
+use Rattle.gb_meaning.specs.Truth.{has_module, last_has_module}
 use Rattle.gb_smt.specs.Leaves.{unless_true, assumed}
 use Rattle.gb_smt_laws.specs.Simple.{is_simple, all_simple, only}
 use mathlib.Core.Former.{Count}

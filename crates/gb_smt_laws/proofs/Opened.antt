@@ -10,7 +10,7 @@ use Rattle.gb_goal.specs.declared.scope.Entry.TheVariants as entry
 use Rattle.gb_goal.specs.Scope as scope
 use Rattle.gb_goal.specs.Scope.{entry_of}
 use Rattle.gb_meaning.specs.Names.{Name}
-use Rattle.gb_holds.specs.Declared.{Declarations, Declaration, declaration_of, declared}
+use Rattle.gb_meaning.specs.Declared.{Declarations, Declaration, declaration_of, declared}
 use Rattle.gb_laws.specs.Typing.{OperatorType, types_of as argument_types, IsHead, inner}
 use Rattle.gb_laws.specs.Typing as typed
 use Rattle.gb_typing.specs.Context.{Context, erased}
@@ -23,7 +23,7 @@ use Rattle.gb_eval.specs.Known.{is_known, all_known, is_head_known, known_of, ar
 use Rattle.gb_eval.specs.Totals.{total_of, totals_of, head_total, total_over}
 use Rattle.gb_eval.specs.Eval.{Part, Environment, at_head, called, eval, eval_all, function_of, operators_of}
 use Rattle.gb_eval.proofs.Environments.{of_is}
-use Rattle.gb_reads.specs.Reads.{reads_of}
+use Rattle.gb_labels.specs.Reads.{reads_of}
 use Rattle.gb_equality.specs.Sizes.{Tys, of_memory}
 use Rattle.gb_smt.specs.Width.{bound_by, bound_types, all_bound, bound_of, only_reads}
 use Rattle.gb_smt_laws.proofs.Equations.{none_some, some_some}

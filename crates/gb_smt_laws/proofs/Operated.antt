@@ -4,7 +4,7 @@ use Rattle.gb_core.specs.declared.ty.Ty.{Ty}
 use Rattle.gb_core.specs.declared.value.Value.{Value}
 use Rattle.gb_core.specs.declared.value.Value.TheVariants.{Num, Many}
 use Rattle.gb_types.specs.Numbering.{parts_of, first_or, number_of}
-use Rattle.gb_coupling.specs.WeightedList.{unit, weight}
+use Rattle.gb_dist.specs.WeightedList.{unit, weight}
 use Rattle.gb_terms.specs.declared.op.Op.{Op}
 use Rattle.gb_terms.specs.declared.op.Op.TheVariants as op
 use Rattle.gb_meaning.specs.Values.{Types, values, first, value_eq}

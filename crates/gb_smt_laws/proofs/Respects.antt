@@ -14,9 +14,9 @@ use Rattle.gb_meaning.specs.State.Binding.{program}
 use Rattle.gb_meaning.specs.State.Binding.{value as value_bound}
 use Rattle.gb_meaning.specs.Terms.{quiet, val, denominator}
 use Rattle.gb_meaning.specs.Values.{Types}
-use Rattle.gb_holds.specs.Declared.{Declarations, Declaration, DefinedOperator, abstract_type, abbreviation, operator, abstract_operator, module_type, concrete_module, abstract_module, axiom_of, lemma, terminating}
-use Rattle.gb_holds.specs.Holds.{GiveResults}
-use Rattle.gb_holds.specs.Settings.{Table, Interpretation, types_of, bare, at_arguments, with_operator, with_declaration, with_operators, setting}
+use Rattle.gb_meaning.specs.Declared.{Declarations, Declaration, DefinedOperator, abstract_type, abbreviation, operator, abstract_operator, module_type, concrete_module, abstract_module, axiom_of, lemma, terminating}
+use Rattle.gb_meaning.specs.Holds.{GiveResults}
+use Rattle.gb_meaning.specs.Settings.{Table, Interpretation, types_of, bare, at_arguments, with_operator, with_declaration, with_operators, setting}
 use Rattle.gb_laws.specs.Context.{AreOf, FitsBinder, FitBinders, IsStateOf}
 use Rattle.gb_laws.specs.Context as typed
 use Rattle.gb_laws.specs.Finite.{IsVariableType, IsInhabited}

@@ -8,10 +8,10 @@ use Rattle.gb_goal.specs.declared.sequent.Sequent.{Sequent}
 use Rattle.gb_meaning.specs.Setting.{Meaning}
 use Rattle.gb_meaning.specs.Setting.Meaning.{finite, whole, fraction, weights}
 use Rattle.gb_meaning.specs.Values.{has}
-use Rattle.gb_holds.specs.Adversary.{Adversary}
-use Rattle.gb_holds.specs.Declared.{Declarations, abstract_type, abbreviation, operator, abstract_operator, module_type, concrete_module, abstract_module, axiom_of, lemma, terminating}
-use Rattle.gb_holds.specs.Settings.{Interpretation, with_program, types_of}
-use Rattle.gb_holds.specs.Holds.{AreValues, IsResult, GiveResults, EachProgram, declared_modules, interpretation}
+use Rattle.gb_meaning.specs.Adversary.{Adversary}
+use Rattle.gb_meaning.specs.Declared.{Declarations, abstract_type, abbreviation, operator, abstract_operator, module_type, concrete_module, abstract_module, axiom_of, lemma, terminating}
+use Rattle.gb_meaning.specs.Settings.{Interpretation, with_program, types_of}
+use Rattle.gb_meaning.specs.Holds.{AreValues, IsResult, GiveResults, EachProgram, declared_modules, interpretation}
 use Rattle.gb_laws.specs.Finite.{IsVariableType}
 use Rattle.gb_laws.proofs.Sizes.{no_globs as same_values}
 use Rattle.gb_typing.specs.Context.{Context}

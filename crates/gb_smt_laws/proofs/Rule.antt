@@ -21,12 +21,12 @@ use Rattle.gb_meaning.specs.Terms.{Speaks}
 use Rattle.gb_meaning.specs.Judgments.{Judge, speaking, IsFair}
 use Rattle.gb_laws.proofs.Exact.{trying}
 use Rattle.gb_laws.proofs.Fair.{is_fair}
-use Rattle.gb_holds.specs.Declared.{Declarations}
-use Rattle.gb_holds.specs.Settings.{Interpretation, with_program, types_of, setting}
-use Rattle.gb_holds.specs.Truth.{Choice, has_module, last_has_module, IsFirstTrue, Truth, TruthOfLast}
-use Rattle.gb_holds.specs.Holds.{EachProgram, AreValues, AreTrue, context, Holds, declared_modules, interpretation}
-use Rattle.gb_holds.proofs.Fronts.{without_modules}
-use Rattle.gb_holds.proofs.SettingTypes.{setting-types}
+use Rattle.gb_meaning.specs.Declared.{Declarations}
+use Rattle.gb_meaning.specs.Settings.{Interpretation, with_program, types_of, setting}
+use Rattle.gb_meaning.specs.Truth.{Choice, has_module, last_has_module, IsFirstTrue, Truth, TruthOfLast}
+use Rattle.gb_meaning.specs.Holds.{EachProgram, AreValues, AreTrue, context, Holds, declared_modules, interpretation}
+use Rattle.gb_meaning.proofs.Fronts.{without_modules}
+use Rattle.gb_meaning.proofs.SettingTypes.{setting-types}
 use Rattle.gb_typing.proofs.Lifted.{InEachSequent, each, joined}
 use Rattle.gb_goal.specs.Scope as scope
 use Rattle.gb_eval.specs.Eval.{operators_of}

@@ -19,7 +19,7 @@ use Rattle.gb_meaning.specs.Setting.Meaning.{finite}
 use Rattle.gb_meaning.specs.State.{State, meaning_in, memory_of}
 use Rattle.gb_meaning.specs.State.Binding.{program}
 use Rattle.gb_meaning.specs.Terms.{read_at}
-use Rattle.gb_holds.specs.Holds.{AreValues, context}
+use Rattle.gb_meaning.specs.Holds.{AreValues, context}
 use Rattle.gb_smt_laws.specs.Reading.{Variables, no_variables, Reading, IsReadAt, AreHeld, HasTypedValues, IsReadingOf}
 use Rattle.gb_smt_laws.specs.Ready.{named_variables, reading_of}
 use Rattle.gb_smt_laws.proofs.Equations.{none_some, some_some}

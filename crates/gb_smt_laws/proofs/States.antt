@@ -2,7 +2,7 @@
 use Rattle.std.proofs.Common.{◌≡◌, ℕ, zero, suc, ◌<◌, Bool, true, ◌&&◌, ◌||◌, if◌then◌else◌, pos, List, [], ◌∷◌, map, Some, refl, sym, ap, ◌∙◌, arith}
 use Rattle.gb_core.specs.declared.ty.Ty.{Ty}
 use Rattle.gb_core.specs.declared.value.Value.{Value}
-use Rattle.gb_coupling.specs.WeightedList.{WeightedList, Every, weight, dmap}
+use Rattle.gb_dist.specs.WeightedList.{WeightedList, Every, weight, dmap}
 use Rattle.gb_terms.specs.declared.op.Read.{Read}
 use Rattle.gb_terms.specs.declared.op.Read.TheVariants.{Logical, Program}
 use Rattle.gb_terms.specs.declared.op.Side.{Side}

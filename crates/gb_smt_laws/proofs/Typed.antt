@@ -14,11 +14,11 @@ use Rattle.gb_goal.specs.declared.sequent.Sequent.{Sequent}
 use Rattle.gb_meaning.specs.Names.{Name}
 use Rattle.gb_meaning.specs.Setting.{Setting}
 use Rattle.gb_goal.specs.Scope as scope
-use Rattle.gb_holds.specs.Declared.{Declarations, declared}
+use Rattle.gb_meaning.specs.Declared.{Declarations, declared}
 use Rattle.gb_eval.specs.Meant.{AreBodies}
 use Rattle.gb_smt_laws.proofs.Bodies.{scope_bodies}
-use Rattle.gb_holds.specs.Programs.{AreOnce}
-use Rattle.gb_holds.specs.Holds.{declared_modules, interpretation, InEachSetting}
+use Rattle.gb_meaning.specs.Programs.{AreOnce}
+use Rattle.gb_meaning.specs.Holds.{declared_modules, interpretation, InEachSetting}
 use Rattle.gb_laws.specs.Finite.{IsFinite, IsInhabited}
 use Rattle.gb_laws.specs.Operators.{item}
 use Rattle.gb_typing.specs.Context.{Frame, Context, frame_of}

@@ -13,7 +13,7 @@ use Rattle.gb_meaning.specs.Setting.{Setting}
 use Rattle.gb_meaning.specs.Setting.Meaning.{finite}
 use Rattle.gb_meaning.specs.State.{State}
 use Rattle.gb_meaning.specs.Terms.{read_at}
-use Rattle.gb_reads.specs.Memories.{IsReadable}
+use Rattle.gb_labels.specs.Memories.{IsReadable}
 
 -- the types at which the variables of a memory are read, each at one at most
 abbrev pub Variables : Type 0

@@ -8,7 +8,7 @@ ghost use Rattle.gb_meaning.specs.State.{State};
 ghost use Rattle.gb_meaning.specs.Terms.{Speaks};
 ghost use Rattle.gb_goal.specs.Scope.{Declarations};
 ghost use Rattle.gb_mods.specs.Exclusions.{exclusions};
-ghost use Rattle.gb_reads.specs.Memories.{AreKeptApart};
+ghost use Rattle.gb_labels.specs.Memories.{AreKeptApart};
 ghost use Rattle.gb_eval.specs.Eval.{operators_of};
 ghost use Rattle.gb_eval.specs.Meant.{AreOperators};
 ghost use Rattle.gb_labels.specs.Labels.{choices, choice_at};

@@ -35,8 +35,8 @@ use Rattle.gb_smt.specs.Leaves.{leaves_of}
 use Rattle.gb_smt.specs.Apply.{IsAnswerOf}
 use Rattle.gb_amb.specs.Steps.{IsAnswer}
 use Rattle.gb_linear.specs.Closing.{linear_answer}
-use Rattle.gb_use.specs.Uses as uses
-use Rattle.gb_call_known.proofs.Answered as known_calls
+use Rattle.gb_amb.specs.Uses as uses
+use Rattle.gb_call_both.proofs.Answered as known_calls
 use Rattle.gb_sim.proofs.Answered as same_statements
 use Rattle.gb_rewrite.specs.Rewriting.{rewrite_answer}
 use Rattle.gb_theory.specs.Built.{Session, OpenProof, fresh_session, seen_in}

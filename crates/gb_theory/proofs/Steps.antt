@@ -19,7 +19,7 @@ use Rattle.gb_steps.specs.declared.step.Acts.{Acts}
 use Rattle.gb_steps.specs.declared.step.Acts.TheVariants as acts
 use Rattle.gb_steps.specs.declared.step.Transformation.{Transformation}
 use Rattle.gb_steps.specs.declared.step.Transformation.TheVariants as transformation
-use Rattle.gb_beside.specs.Beside.{beside_answer}
+use Rattle.gb_trans.specs.Beside.{beside_answer}
 use Rattle.gb_inline.specs.Rows as transformations
 use Rattle.gb_steps.specs.declared.step.AbstractRule.{AbstractRule}
 use Rattle.gb_steps.specs.declared.step.AmbientRule.{AmbientRule}
@@ -30,16 +30,16 @@ use Rattle.gb_steps.specs.declared.step.BodyRule.{BodyRule}
 use Rattle.gb_steps.specs.declared.step.Invariant.{Invariant}
 use Rattle.gb_steps.specs.declared.step.RelationalRule.{RelationalRule}
 use Rattle.gb_steps.specs.declared.step.RelationalRule.TheVariants as on_both
-use Rattle.gb_relational.specs.Rows as equiv
+use Rattle.gb_equiv.specs.Rows as equiv
 use Rattle.gb_goal.specs.Answers.Answer.{given, refused}
 use Rattle.gb_elab_mod.specs.Steps.{step_given}
 use Rattle.gb_smt.specs.Leaves.{leaves_of}
 use Rattle.gb_smt.specs.Apply.{IsResult}
 use Rattle.gb_amb.specs.Steps.{IsAnswer, Returns}
 use Rattle.gb_linear.specs.Closing.{linear_answer}
-use Rattle.gb_use.specs.Uses as uses
+use Rattle.gb_amb.specs.Uses as uses
 use Rattle.gb_adv.specs.Rows.{abstract_row}
-use Rattle.gb_call_known.specs.Known as known_calls
+use Rattle.gb_call_both.specs.Known as known_calls
 use Rattle.gb_sim.specs.Sim as same_statements
 use Rattle.gb_rewrite.specs.Rewriting.{rewrite_answer}
 use Rattle.gb_theory.specs.Built.{Session, OpenProof, with_goals, seen_in}

@@ -31,27 +31,27 @@ use Rattle.gb_goal.specs.Rows.{Row, refusing, stepped}
 use Rattle.gb_bodies.specs.Rows as bodies
 use Rattle.gb_ended.specs.Loops.{unproved_in}
 use Rattle.gb_loops.specs.While.{while_row}
-use Rattle.gb_relational.specs.Rows as equiv
+use Rattle.gb_equiv.specs.Rows as equiv
 use Rattle.gb_phoare.specs.Rows as chances
 use Rattle.gb_pr.specs.Rows as probabilities
 use Rattle.gb_call_both.specs.Rows as calls
 use Rattle.gb_adv.specs.Rows.{abstract_row}
-use Rattle.gb_call_known.specs.Known as known_calls
-use Rattle.gb_beside.specs.Beside.{beside_answer}
+use Rattle.gb_call_both.specs.Known as known_calls
+use Rattle.gb_trans.specs.Beside.{beside_answer}
 use Rattle.gb_inline.specs.Rows as transformations
 use Rattle.gb_sim.specs.Sim as same_statements
 use Rattle.gb_smt.specs.Leaves.{leaves_of}
 use Rattle.gb_smt.specs.Apply.{IsAnswerOf}
 use Rattle.gb_amb.specs.Steps as conclusions
 use Rattle.gb_linear.specs.Closing.{linear_answer}
-use Rattle.gb_use.specs.Uses as uses
+use Rattle.gb_amb.specs.Uses as uses
 use Rattle.gb_rewrite.specs.Rewriting.{rewrite_answer}
 use Rattle.gb_theory.specs.Limits.{declaration_limit, each_limit, all_limit}
 use Rattle.gb_theory.specs.Combinators.{Stepping, works}
 use Rattle.gb_state.specs.declared.state.Claim.TheVariants as claim
 use Rattle.gb_theory.specs.Built.{Session, OpenProof, with_entries, with_module, with_lemma, with_goals, with_proved, seen_in}
-use Rattle.gb_variants.specs.Operand.{operand}
-use Rattle.gb_variants.specs.Variants.{goals_of}
+use Rattle.gb_loops.specs.Operand.{operand}
+use Rattle.gb_loops.specs.Variants.{goals_of}
 
 -- an answer that goes on from this one; a refusal stands
 abbrev pub After : {X Y : Type 0} → Answer X → (X → Answer Y → Type 0) → Answer Y → Type 0

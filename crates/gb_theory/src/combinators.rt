@@ -10,7 +10,7 @@ ghost use Rattle.gb_theory.specs.Combinators.{or_left, times_allowed};
 use gb_core::refusal::Refused;
 use gb_goal::sequent::{Sequent, Sequents};
 use gb_limits::numbers::number;
-use gb_parts::subgoals::one_goal;
+use gb_prog::subgoals::one_goal;
 use gb_script::tree::Node;
 use std::alloc::{AllocError, Global};
 

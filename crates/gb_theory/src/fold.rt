@@ -13,7 +13,7 @@ ghost use Rattle.gb_theory.specs.Built.{Session, OpenProof as Opened, lemmas_wit
 ghost use Rattle.gb_theory.specs.Commands.{all_allowed, assumes, brings, declares, is_built_in, loops_opened, opens, opens_loops, requires_files, begun, ended, continued, InProof, Proves, WorksOn, ComesToOf, ComesTo};
 ghost use Rattle.gb_state.specs.Opened.{is_new, is_undeclared};
 ghost use Rattle.gb_theory.specs.Placed.{placed};
-ghost use Rattle.gb_variants.specs.Variants.{goals_of};
+ghost use Rattle.gb_loops.specs.Variants.{goals_of};
 ghost use Rattle.gb_theory.specs.Sessions.{open_of, session_of, Meets, Leads, IsKept};
 
 use crate::limits::{check_all, check_declarations, check_each, check_goal};
@@ -27,13 +27,13 @@ use gb_elab_mod::binders::binders;
 use gb_goal::binders::binder_entries;
 use gb_goal::scope::{ProcName, Scope};
 use gb_goal::sequent::{Sequent, Sequents};
+use gb_loops::operand::operand;
+use gb_loops::variants::goals_of;
 use gb_script::head::Head;
 use gb_script::tree::Node;
 use gb_state::state::{Claim, OpenProof, State};
 use gb_steps::goals::Goals;
 use gb_terms::term::Instr;
-use gb_variants::operand::operand;
-use gb_variants::variants::goals_of;
 use std::alloc::{AllocError, Global};
 use std::slice::from_ref;
 

@@ -12,12 +12,12 @@ ghost use Rattle.gb_theory.specs.Commands.{AreRules, ComesTo, RuleAnswers};
 ghost use Rattle.gb_theory.specs.Outcome.{IsOutcome, IsReadAs};
 
 use gb_amb::laws::answers;
+use gb_amb::using_laws::answers_of_uses;
 use gb_lex::laws::{commands_have_bytes, each_fault_has_a_place};
 use gb_read_script::laws::{
     commands_are_unique, each_text_is_read_or_refused, refusals_are_unique,
 };
 use gb_smt::laws::{there_is_an_answer, there_is_one_answer};
-use gb_use::laws::answers_of_uses;
 
 /// A script comes to one thing at most: to one session, or to one refusal at one place.
 pub fn one_outcome()

@@ -26,7 +26,7 @@ use gb_goal::goal::goal_of;
 use gb_goal::scope::{ProcName, Scope};
 use gb_goal::sequent::{Sequent, Sequents};
 use gb_names::refusals::{argument, not_built};
-use gb_parts::subgoals::{placed, refusal};
+use gb_prog::subgoals::{placed, refusal};
 use gb_script::head::Head;
 use gb_script::tree::Node;
 use gb_steps::step::{Acts, BodyRule, RelationalRule, Rule, Step, Transformation};
@@ -95,7 +95,7 @@ fn on_both(
 {
     match rule {
         RelationalRule::Sim => gb_sim::apply(alloc, step.place, goal, scope),
-        _ => gb_relational::apply(alloc, step, goal, scope),
+        _ => gb_equiv::rule::apply(alloc, step, goal, scope),
     }
 }
 
@@ -114,7 +114,7 @@ fn on_guard(
 {
     match acts {
         Acts::All => gb_inline::apply::apply(alloc, step, goal, scope),
-        _ => gb_beside::beside::apply(alloc, acts, at, holds, step.place, goal, scope),
+        _ => gb_trans::beside::apply(alloc, acts, at, holds, step.place, goal, scope),
     }
 }
 
@@ -151,11 +151,11 @@ fn apply(alloc: Global, step: &Step, goal: &Sequent, scope: &Scope) -> Result<Se
         Rule::Transform(acts, rule) => on_programs(alloc, step, *acts, rule, goal, scope),
         Rule::While(kept) => gb_loops::while_loop::apply(alloc, kept, step.place, goal, scope),
         Rule::CallKnown(acts, known) => {
-            gb_call_known::apply(alloc, *acts, known, step.place, goal, scope)
+            gb_call_both::known::apply(alloc, *acts, known, step.place, goal, scope)
         }
         Rule::Abstract(rule) => gb_adv::apply::apply(alloc, rule, step.place, goal, scope),
         Rule::Ambient(rule) => gb_amb::apply::apply(alloc, rule, step.place, goal),
-        Rule::Use(rule) => gb_use::apply::apply(alloc, rule, step.place, goal),
+        Rule::Use(rule) => gb_amb::using::apply(alloc, rule, step.place, goal),
         Rule::Rewrite(rule) => gb_rewrite::goals::apply(alloc, rule, step.place, goal, scope),
         Rule::Smt(known) => gb_smt::apply::apply(alloc, known.as_slice(), step.place, goal, scope),
         Rule::Linear(multiples) => {

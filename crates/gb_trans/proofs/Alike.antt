@@ -13,8 +13,8 @@ use Rattle.gb_meaning.specs.Sound.{IsSound}
 use Rattle.gb_meaning.specs.State.{State, at, between}
 use Rattle.gb_meaning.specs.Terms.{val}
 use Rattle.gb_meaning.proofs.Runs.{run_positive}
-use Rattle.gb_holds.specs.Declared.{Declarations}
-use Rattle.gb_holds.specs.Holds.{LoopsAreGood}
+use Rattle.gb_meaning.specs.Declared.{Declarations}
+use Rattle.gb_meaning.specs.Holds.{LoopsAreGood}
 use Rattle.gb_goal.specs.Answers.{Answer, ◌>>=◌}
 use Rattle.gb_goal.specs.Answers.Answer.{given, refused}
 use Rattle.gb_goal.specs.Goal.{Goal}
@@ -30,7 +30,7 @@ use Rattle.gb_typing.specs.Programs.{IsBody}
 use Rattle.gb_typing.specs.Rules.{IsSettingOver, IsSoundRuleIn, no_arguments}
 use Rattle.gb_typing.proofs.Drawing.{body_sound}
 use Rattle.gb_typing.proofs.Given.{refused_given, same_given}
-use Rattle.gb_parts.specs.OneBody.{OneBody, one_body}
+use Rattle.gb_prog.specs.OneBody.{OneBody, one_body}
 use Rattle.gb_prog.specs.Ends.{KeepsEnds, LoopsEnd, IsSoundLoopRule}
 use Rattle.gb_prog.specs.Loops.{RunAlike}
 use Rattle.gb_prog.proofs.Couplings.{alike_ends, alike_chances, alike_left, alike_right}

@@ -16,11 +16,11 @@ use Rattle.gb_laws.specs.Cells.{Key}
 use Rattle.gb_laws.specs.Cells.Key.{global, local}
 use Rattle.gb_laws.specs.Writes.{key_of_global, keys_of, IsNone, Spares}
 use Rattle.gb_laws.proofs.Cells.{key_discrete}
-use Rattle.gb_holds.specs.Footprints.{is_global}
+use Rattle.gb_meaning.specs.Footprints.{is_global}
 use Rattle.gb_typing.specs.Forms.{IsKeptOff}
 use Rattle.gb_typing.proofs.ClashFree.{no_share, none_both}
 use Rattle.gb_typing.proofs.Globals.{none_of, same_global}
-use Rattle.gb_premises.specs.declared.effects.Effects.{Effects}
+use Rattle.gb_forms.specs.declared.effects.Effects.{Effects}
 use Rattle.gb_trans.specs.Effects.{crossing, meets}
 use Rattle.gb_trans.proofs.Named.{EachNamed}
 

@@ -3,8 +3,8 @@ use Rattle.std.proofs.Common.{◌≡◌, inl, inr, ◌⊎◌, ℕ, ◌*◌, Bool
 use Rattle.std.specs.Ordering.{eq_by_cmp}
 use Rattle.std.specs.FinMap.Entries.{find, where_key, is_sorted-where_key, find-where_key, find-put}
 use Rattle.gb_core.specs.declared.value.Value.{Value}
-use Rattle.gb_coupling.specs.WeightedList.{WeightedList, mass, bind, dmap, Every}
-use Rattle.gb_coupling.proofs.Masses.{mass-bind, mass-dmap, mass-every, mass-swap}
+use Rattle.gb_dist.specs.WeightedList.{WeightedList, mass, bind, dmap, Every}
+use Rattle.gb_dist.proofs.Masses.{mass-bind, mass-dmap, mass-every, mass-swap}
 use Rattle.gb_terms.specs.declared.term.Instr.{Instr}
 use Rattle.gb_meaning.specs.Commands.{statements}
 use Rattle.gb_meaning.specs.Memory.{Memory}

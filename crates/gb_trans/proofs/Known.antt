@@ -14,8 +14,8 @@ use Rattle.gb_meaning.specs.Setting.{Setting}
 use Rattle.gb_meaning.specs.State.{State}
 use Rattle.gb_laws.specs.Cells.{Key}
 use Rattle.gb_laws.specs.Writes.{Spares, Unwritten}
-use Rattle.gb_holds.specs.Footprints as own
-use Rattle.gb_holds.specs.Footprints.{touched_in, variables, variables_in}
+use Rattle.gb_meaning.specs.Footprints as own
+use Rattle.gb_meaning.specs.Footprints.{touched_in, variables, variables_in}
 use Rattle.gb_goal.specs.Scope.{Declarations, procedure_of}
 use Rattle.gb_mods.specs.Called.{all_reached, calls}
 use Rattle.gb_mods.specs.Footprint.{touched}
@@ -32,7 +32,7 @@ use Rattle.gb_typing.specs.Forms.{IsKeptOff}
 use Rattle.gb_typing.specs.Programs.{EachStatement, IsProcedure}
 use Rattle.gb_walk.specs.Clash.{Exclusions}
 use Rattle.gb_prog.specs.Loops.{RunAlike}
-use Rattle.gb_premises.specs.declared.effects.Effects.{Effects}
+use Rattle.gb_forms.specs.declared.effects.Effects.{Effects}
 use Rattle.gb_trans.specs.Effects.{crossing, effects_if, effects_of}
 use Rattle.gb_trans.proofs.Apart.{naming, uncrossed, unmet_unnamed, unnamed_spared}
 use Rattle.gb_trans.proofs.Crossing as alike

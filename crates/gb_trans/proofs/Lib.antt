@@ -1,3 +1,21 @@
+mod BesideIsSound
+mod BoundNames
+mod Seats
+mod Coupled
+mod Killed
+mod KillIsSound
+mod Reading
+mod ReadSteps
+pub mod KillRowsAreSound
+mod Unread
+pub mod Deciding
+pub mod DecidedIsSound
+pub mod GuardsAreSound
+pub mod Shapes
+mod Turns
+mod UnrollIsSound
+mod Decides
+mod Unrolls
 pub mod Known
 pub mod SwapIsSound
 pub mod Swapped

@@ -26,7 +26,7 @@ use Rattle.gb_laws.specs.Cells.Key.{global, local}
 use Rattle.gb_laws.specs.Reads.{leaf_cells, program_cells, routine_cells, row_cells, term_cells, terms_cells}
 use Rattle.gb_laws.specs.Writes.{key_of_global, keys_of}
 use Rattle.gb_laws.proofs.NearRuns.{InFrame, with_frame, with_frame_covers}
-use Rattle.gb_holds.specs.Footprints.{globals_among, head_variables, variables, variables_in}
+use Rattle.gb_meaning.specs.Footprints.{globals_among, head_variables, variables, variables_in}
 use Rattle.gb_goal.specs.Scope.{Declarations, procedure_of}
 use Rattle.gb_mods.specs.Called.{called_by, row_calls, calls}
 use Rattle.gb_mods.specs.Meant.{in_front, meant_by}

@@ -7,7 +7,7 @@ use Rattle.gb_terms.specs.declared.term.Instr.{Instr}
 use Rattle.gb_meaning.specs.Commands.{statements}
 use Rattle.gb_meaning.specs.Setting.{Setting}
 use Rattle.gb_meaning.specs.State.{State}
-use Rattle.gb_holds.specs.Declared.{declared}
+use Rattle.gb_meaning.specs.Declared.{declared}
 use Rattle.gb_goal.specs.Answers.Answer.{given}
 use Rattle.gb_goal.specs.Scope.{Declarations, procedure_of}
 use Rattle.gb_goal.specs.declared.sequent.Sequent.{Sequent}
@@ -19,7 +19,7 @@ use Rattle.gb_typing.specs.Scopes.{context_of, IsTypedScope}
 use Rattle.gb_typing.specs.Sequents.{of_sequent, IsTypedSequent}
 use Rattle.gb_typing.proofs.Lists.{typed_append, typed_drop, typed_take}
 use Rattle.gb_typing.proofs.Located.{typed_there}
-use Rattle.gb_parts.specs.OneBody.{OneBody}
+use Rattle.gb_prog.specs.OneBody.{OneBody}
 use Rattle.gb_mods.specs.Meant.{meant_by}
 use Rattle.gb_adversaries.specs.Means.{Means}
 use Rattle.gb_typing.specs.Forms.{IsKeptOff}

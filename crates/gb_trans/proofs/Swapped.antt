@@ -14,7 +14,7 @@ use Rattle.gb_mods.specs.Exclusions.{exclusions}
 use Rattle.gb_steps.specs.declared.step.Passing.{Passing}
 use Rattle.gb_typing.proofs.Given.{same_given}
 use Rattle.gb_prog.proofs.Own.{Good, good_append}
-use Rattle.gb_premises.specs.declared.effects.Effects.{Effects}
+use Rattle.gb_forms.specs.declared.effects.Effects.{Effects}
 use Rattle.gb_trans.specs.Effects.{crossing, effects_of}
 use Rattle.gb_trans.specs.Swap.{apart, before, exchange, exchanged, first, moved, rest, second, swapped, unless_crossing}
 

@@ -1,6 +1,6 @@
 -- Before and after `swap` a body runs alike.
 use Rattle.std.proofs.Common.{◌≡◌, ℕ, ◌*◌, Bool, List, ◌++◌, drop, append_assoc, Some, ap, ◌∙◌, subst}
-use Rattle.gb_coupling.specs.WeightedList.{bit, weight}
+use Rattle.gb_dist.specs.WeightedList.{bit, weight}
 use Rattle.gb_terms.specs.declared.decl.Proc.{Proc}
 use Rattle.gb_terms.specs.declared.decl.TypedName.{TypedName}
 use Rattle.gb_terms.specs.declared.module.ProcRef.{ProcRef}
@@ -9,7 +9,7 @@ use Rattle.gb_meaning.specs.Commands.{statements}
 use Rattle.gb_meaning.specs.Memory.{Memory}
 use Rattle.gb_meaning.specs.Setting.{Setting}
 use Rattle.gb_meaning.specs.State.{State}
-use Rattle.gb_holds.specs.Declared.{declared}
+use Rattle.gb_meaning.specs.Declared.{declared}
 use Rattle.gb_goal.specs.Answers.Answer.{given}
 use Rattle.gb_goal.specs.Scope.{Declarations, procedure_of}
 use Rattle.gb_goal.specs.declared.sequent.Sequent.{Sequent}

@@ -7,8 +7,8 @@ use Rattle.gb_terms.specs.declared.term.Instr.{Instr}
 use Rattle.gb_walk.specs.Clash.{Exclusions, clashes, least, least_from}
 use Rattle.gb_goal.specs.Scope.{Declarations}
 use Rattle.gb_mods.specs.Called.{all_reached, calls}
-use Rattle.gb_premises.specs.Effects.{effects_by}
-use Rattle.gb_premises.specs.declared.effects.Effects.{Effects}
+use Rattle.gb_forms.specs.Effects.{effects_by}
+use Rattle.gb_forms.specs.declared.effects.Effects.{Effects}
 
 abbrev pub effects_if : Declarations → List Instr → Option (List ProcRef) → Option Effects
 effects_if ds is None = None

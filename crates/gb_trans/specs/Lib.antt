@@ -1,3 +1,10 @@
+pub mod Beside
+pub mod Events
+pub mod Kill
+pub mod KillRows
+pub mod Decided
+pub mod GuardRows
+pub mod Unrolled
 pub mod Effects
 pub mod Places
 pub mod Rows

@@ -8,8 +8,8 @@ use Rattle.gb_goal.specs.Answers.Answer.{given}
 use Rattle.gb_goal.specs.Rows.{Row, refusing}
 use Rattle.gb_goal.specs.Scope.{Declarations}
 use Rattle.gb_steps.specs.declared.step.Acts.{Acts}
-use Rattle.gb_parts.specs.OneBody.{OneBody}
-use Rattle.gb_premises.specs.declared.effects.Effects.{Effects}
+use Rattle.gb_prog.specs.OneBody.{OneBody}
+use Rattle.gb_forms.specs.declared.effects.Effects.{Effects}
 use Rattle.gb_steps.specs.declared.step.Passing.{Passing}
 use Rattle.gb_trans.specs.Effects.{crossing, effects_of}
 use Rattle.gb_trans.specs.Transformed.{transforming}

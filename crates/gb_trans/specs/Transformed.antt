@@ -7,7 +7,7 @@ use Rattle.gb_goal.specs.Answers.{Answer, ◌>>=◌}
 use Rattle.gb_goal.specs.Answers.Answer.{given}
 use Rattle.gb_goal.specs.Goal.{Goal}
 use Rattle.gb_goal.specs.Rows.{Row, refusing}
-use Rattle.gb_parts.specs.OneBody.{OneBody, one_body, on_one}
+use Rattle.gb_prog.specs.OneBody.{OneBody, one_body, on_one}
 
 -- the goal with the body that is made of its own
 abbrev pub with_body : (OneBody → Answer (List Instr)) → OneBody → Answer (List Goal)

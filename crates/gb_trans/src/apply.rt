@@ -8,7 +8,7 @@ use crate::swap::swap;
 use gb_core::refusal::Refused;
 use gb_goal::scope::Scope;
 use gb_goal::sequent::{Sequent, Sequents};
-use gb_parts::subgoals::no_shape;
+use gb_prog::subgoals::no_shape;
 use gb_steps::step::{Acts, Transformation};
 use std::alloc::Global;
 

@@ -7,9 +7,9 @@ ghost use Rattle.std.specs.List.{filter};
 ghost use Rattle.gb_trans.specs.Effects.{crossing, effects_of, meets};
 
 use gb_core::var::Var;
+use gb_forms::effects::{Effects, effects_by};
 use gb_goal::scope::Scope;
 use gb_mods::called::{all_reached, calls};
-use gb_premises::effects::{Effects, effects_by};
 use gb_terms::term::Instr;
 use gb_walk::clash::{Excluded, clashes, lesser};
 use sqlite_items::Items;

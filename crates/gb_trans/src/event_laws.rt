@@ -1,7 +1,7 @@
 //! What `swap` leaves of the runs of a body: each event is as likely before it and after it.
 
 ghost use Rattle.std.specs.Prelude.{◌≡◌, ◌*◌, Bool, List};
-ghost use Rattle.gb_coupling.specs.WeightedList.{weight};
+ghost use Rattle.gb_dist.specs.WeightedList.{weight};
 ghost use Rattle.gb_terms.specs.declared.decl.TypedName.{TypedName};
 ghost use Rattle.gb_terms.specs.declared.term.Instr.{Instr};
 ghost use Rattle.gb_meaning.specs.Memory.{Memory};
@@ -10,7 +10,7 @@ ghost use Rattle.gb_meaning.specs.State.{State};
 ghost use Rattle.gb_goal.specs.Answers.Answer.{given};
 ghost use Rattle.gb_goal.specs.Scope.{Declarations};
 ghost use Rattle.gb_goal.specs.declared.sequent.Sequent.{Sequent};
-ghost use Rattle.gb_holds.specs.Declared.{declared};
+ghost use Rattle.gb_meaning.specs.Declared.{declared};
 ghost use Rattle.gb_steps.specs.declared.step.Passing.{Passing};
 ghost use Rattle.gb_typing.specs.Meaning.{denominator, run};
 ghost use Rattle.gb_typing.specs.Programs.{IsBody};

@@ -5,14 +5,14 @@ ghost use Rattle.gb_goal.specs.Answers.{Answers};
 ghost use Rattle.gb_goal.specs.Answers.Answer.{given};
 ghost use Rattle.gb_goal.specs.Goal.{form_of};
 ghost use Rattle.gb_goal.specs.Rows.{each_concluding};
-ghost use Rattle.gb_parts.specs.OneBody.{one_seen};
+ghost use Rattle.gb_prog.specs.OneBody.{one_seen};
 ghost use Rattle.gb_trans.specs.Transformed.{with_body};
 
 use gb_core::SharedItems;
 use gb_core::refusal::Refused;
 use gb_goal::sequent::{Sequent, Sequents};
-use gb_parts::one_body::{OneBody, filled};
-use gb_parts::subgoals::one_goal;
+use gb_prog::one_body::{OneBody, filled};
+use gb_prog::subgoals::one_goal;
 use gb_terms::term::{Form, Instrs};
 use std::alloc::{AllocError, Global};
 

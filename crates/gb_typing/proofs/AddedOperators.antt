@@ -10,12 +10,12 @@ use Rattle.gb_meaning.specs.Values.{World, Types}
 use Rattle.gb_meaning.specs.Setting.{Setting, Meaning}
 use Rattle.gb_meaning.specs.Setting.Meaning.{finite}
 use Rattle.gb_meaning.specs.Terms.{val, quiet, denominator}
-use Rattle.gb_holds.specs.Declared.{Declarations, Declaration, DefinedOperator, AbstractOperator, abstract_type, abbreviation, operator, abstract_operator, module_type, concrete_module, abstract_module, axiom_of, lemma, terminating}
-use Rattle.gb_holds.specs.Naming.{EachName, IsFresh}
-use Rattle.gb_holds.specs.Settings.{Table, interpreted, types_of, bare, at_arguments, with_operator, with_declaration, with_operators}
-use Rattle.gb_holds.specs.Holds.{IsResult, GiveResults, KeepsModules}
-use Rattle.gb_holds.proofs.Statements.{scope-as}
-use Rattle.gb_holds.proofs.Kept.{Before}
+use Rattle.gb_meaning.specs.Declared.{Declarations, Declaration, DefinedOperator, AbstractOperator, abstract_type, abbreviation, operator, abstract_operator, module_type, concrete_module, abstract_module, axiom_of, lemma, terminating}
+use Rattle.gb_meaning.specs.Naming.{EachName, IsFresh}
+use Rattle.gb_meaning.specs.Settings.{Table, interpreted, types_of, bare, at_arguments, with_operator, with_declaration, with_operators}
+use Rattle.gb_meaning.specs.Holds.{IsResult, GiveResults, KeepsModules}
+use Rattle.gb_meaning.proofs.Statements.{scope-as}
+use Rattle.gb_meaning.proofs.Kept.{Before}
 use Rattle.gb_typing.specs.Agreement.{SameFootprint}
 use Rattle.gb_typing.specs.Naming.{NoName, IsOther, AgreeOn, TermNames, OperatorsName}
 use Rattle.gb_typing.proofs.SameTerms.{term_same, denominator_same}

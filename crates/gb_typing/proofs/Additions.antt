@@ -5,12 +5,12 @@ use Rattle.gb_goal.specs.declared.scope.ProcName.{ProcName}
 use Rattle.gb_goal.specs.declared.sequent.Sequent.{Sequent}
 use Rattle.gb_meaning.specs.Names.{Name}
 use Rattle.gb_meaning.specs.Values.{World}
-use Rattle.gb_holds.specs.Declared.{Declarations, Declaration, abstract_type, abbreviation, operator, abstract_operator, module_type, concrete_module, abstract_module, axiom_of, lemma, terminating}
-use Rattle.gb_holds.specs.Settings.{Table}
-use Rattle.gb_holds.specs.Holds.{KeepModules, AreSilent, Holds, IsTerminating, IsSoundAfter, AreSoundAfter, IsSound}
-use Rattle.gb_holds.proofs.Statements.{silent-keeps}
-use Rattle.gb_holds.proofs.Kept.{Before, before-silent, still_holds}
-use Rattle.gb_holds.proofs.KeptLoops.{still_proved}
+use Rattle.gb_meaning.specs.Declared.{Declarations, Declaration, abstract_type, abbreviation, operator, abstract_operator, module_type, concrete_module, abstract_module, axiom_of, lemma, terminating}
+use Rattle.gb_meaning.specs.Settings.{Table}
+use Rattle.gb_meaning.specs.Holds.{KeepModules, AreSilent, Holds, IsTerminating, IsSoundAfter, AreSoundAfter, IsSound}
+use Rattle.gb_meaning.proofs.Statements.{silent-keeps}
+use Rattle.gb_meaning.proofs.Kept.{Before, before-silent, still_holds}
+use Rattle.gb_meaning.proofs.KeptLoops.{still_proved}
 use Rattle.gb_typing.specs.Naming.{NoName, IsOther, OperatorsName}
 use Rattle.gb_typing.specs.Added.{IsOperator, IsNewOperator, AreLoopsApart, IsSequentApartIn, IsAdded, AreAdded, AreAddedTo, AreAddedToLoops}
 use Rattle.gb_typing.proofs.AddedOperators.{before-defined, before-abstract}

@@ -10,7 +10,7 @@ use Rattle.gb_goal.specs.Scope.{Declarations, module_type_of}
 use Rattle.gb_goal.specs.Interfaces as known
 use Rattle.gb_goal.specs.Interfaces.{ProcedureType, Procedures, signature_types, signatures_of, params_in, are_none, provides, serves, takes, interface_of}
 use Rattle.gb_meaning.specs.Names.{Name}
-use Rattle.gb_holds.specs.Declared.{ModuleType}
+use Rattle.gb_meaning.specs.Declared.{ModuleType}
 use Rattle.gb_typing.specs.Modules.{Interface, Modules, functor_type, is_complete, serve, fits, left_over, lacking, given, interface_at, interfaces_at, of_complete, procedure_of, procedure_type}
 use Rattle.gb_typing.specs.Suits.{lacked}
 use Rattle.gb_typing.proofs.Interfaces.{none_some, same_some}

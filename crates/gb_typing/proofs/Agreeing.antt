@@ -24,9 +24,9 @@ use Rattle.gb_meaning.specs.Program.Program.{done, assign, sample, branch, loop,
 use Rattle.gb_meaning.specs.Program.Routine.{routine}
 use Rattle.gb_meaning.specs.Setting.{Setting}
 use Rattle.gb_meaning.specs.Commands.{program_of}
-use Rattle.gb_holds.specs.Naming.{EachName, EachCall, EachCallIn}
+use Rattle.gb_meaning.specs.Naming.{EachName, EachCall, EachCallIn}
 use Rattle.gb_typing.specs.Agreement.{SameValues, SameType, SameLocals, SameRead, SameWritten, AreWritten, SameLeaf, SameTerm, SameTerms, AreSameTerms, SameProgram, SameRoutine, SameIfThere, SameProcedure, SameSubject, SameJudged, SameForm, SameForms}
-use Rattle.gb_holds.specs.Globs.{EachGlob, EachGlobIn}
+use Rattle.gb_meaning.specs.Globs.{EachGlob, EachGlobIn}
 use Rattle.gb_typing.specs.Naming.{EachGlobOf, VariableNames, VariablesName, HeadNames, TermNames, TermsName, EachTermNames, ProgramNames, RoutineNames, NamesIfThere, ProcedureNames, SubjectNames, JudgedNames, FormNames, FormsName, AgreeOn}
 
 module _ (P : Name → Type 0) where

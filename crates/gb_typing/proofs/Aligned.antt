@@ -2,12 +2,12 @@
 use Rattle.std.proofs.Common.{◌≡◌, ℕ, if◌then◌else◌, List, [], ◌∷◌, ◌++◌, filter, bytes_eq, sym}
 use Rattle.gb_meaning.specs.Names.{Name}
 use Rattle.gb_meaning.specs.Values.{Global, World}
-use Rattle.gb_holds.specs.Declared.{Declarations, abstract_type, abbreviation, operator, abstract_operator, module_type, concrete_module, abstract_module, axiom_of, lemma, terminating}
-use Rattle.gb_holds.specs.Settings.{Chosen, is_chosen, Table, Interpretation, interpreted, setting, globals_from, declared_globals}
-use Rattle.gb_holds.specs.Holds.{InEachModel}
-use Rattle.gb_holds.specs.Naming.{AnyName, IsFresh, IsTypeIn}
-use Rattle.gb_holds.proofs.ModuleTypes.{ChosenIn}
-use Rattle.gb_holds.proofs.SameScope.{SameTypes}
+use Rattle.gb_meaning.specs.Declared.{Declarations, abstract_type, abbreviation, operator, abstract_operator, module_type, concrete_module, abstract_module, axiom_of, lemma, terminating}
+use Rattle.gb_meaning.specs.Settings.{Chosen, is_chosen, Table, Interpretation, interpreted, setting, globals_from, declared_globals}
+use Rattle.gb_meaning.specs.Holds.{InEachModel}
+use Rattle.gb_meaning.specs.Naming.{AnyName, IsFresh, IsTypeIn}
+use Rattle.gb_meaning.proofs.ModuleTypes.{ChosenIn}
+use Rattle.gb_meaning.proofs.SameScope.{SameTypes}
 use Rattle.gb_typing.specs.Naming.{chosen_names, IsKept, AgreeOn}
 use Rattle.gb_typing.proofs.PlainGlobals.{EachPlain}
 

@@ -4,8 +4,8 @@ use Rattle.gb_terms.specs.declared.term.Term.{Term}
 use Rattle.gb_terms.specs.declared.term.Instr.{Instr}
 use Rattle.gb_terms.specs.declared.term.Cmd.{Cmd}
 use Rattle.gb_terms.specs.declared.term.Head.TheVariants.{If}
-use Rattle.gb_coupling.specs.WeightedList.{WeightedList, bind, scale}
-use Rattle.gb_coupling.proofs.Monad.{bind-scale}
+use Rattle.gb_dist.specs.WeightedList.{WeightedList, bind, scale}
+use Rattle.gb_dist.proofs.Monad.{bind-scale}
 use Rattle.gb_meaning.specs.Memory.{Memory}
 use Rattle.gb_meaning.specs.Setting.{Setting}
 use Rattle.gb_meaning.specs.State.{State}

@@ -1,6 +1,6 @@
 -- The run of a procedure is that of its body.
 use Rattle.std.proofs.Common.{◌≡◌, Some, ap, ◌∙◌}
-use Rattle.gb_coupling.specs.WeightedList.{dmap}
+use Rattle.gb_dist.specs.WeightedList.{dmap}
 use Rattle.gb_terms.specs.declared.decl.Proc.{Proc}
 use Rattle.gb_terms.specs.declared.module.ProcRef.{ProcRef}
 use Rattle.gb_meaning.specs.Commands.{statements}

@@ -8,7 +8,7 @@ use Rattle.gb_terms.specs.declared.term.Term.{Term}
 use Rattle.gb_terms.specs.declared.term.Instr.{Instr, Row_of-Instr, end_of-Instr, more_of-Instr}
 use Rattle.gb_terms.specs.declared.term.Head.TheVariants.{Assign, Sample, Call', If', While'}
 use Rattle.gb_meaning.specs.Commands.{terms_in}
-use Rattle.gb_holds.specs.Naming.{EachCallIn, EachCallOf}
+use Rattle.gb_meaning.specs.Naming.{EachCallIn, EachCallOf}
 use Rattle.gb_typing.specs.Context.{Context, procedure}
 use Rattle.gb_typing.specs.Modules.{ProcedureType}
 use Rattle.gb_typing.specs.Programs.{IsCall, AreStatements, EachStatement}

@@ -4,8 +4,8 @@ use Rattle.std.specs.Ordering.{int_eq}
 use Rattle.std.proofs.lemmas.Bool.{le-leb, leb-true, leb-false, lt-leb, lt-ltb, ltb-true, ltb-false, le-ltb}
 use Rattle.gb_terms.specs.declared.op.Rel.{Rel}
 use Rattle.gb_terms.specs.declared.op.Rel.TheVariants as rel
-use Rattle.gb_coupling.specs.WeightedList.{WeightedList, weight, bit, scale}
-use Rattle.gb_coupling.proofs.Masses.{mass-scale}
+use Rattle.gb_dist.specs.WeightedList.{WeightedList, weight, bit, scale}
+use Rattle.gb_dist.proofs.Masses.{mass-scale}
 use Rattle.gb_meaning.specs.Fractions.{Fraction}
 use Rattle.gb_meaning.specs.Memory.{Memory}
 use Rattle.gb_meaning.specs.Judgments.{compares, chance}

@@ -9,12 +9,12 @@ use Rattle.gb_terms.specs.declared.module.Mexp.{Mexp}
 use Rattle.gb_terms.specs.declared.module.Mexp.TheVariants.{Name as named, Apply'}
 use Rattle.gb_meaning.specs.Names.{Name}
 use Rattle.gb_meaning.specs.Values.{World}
-use Rattle.gb_holds.specs.Declared.{Declarations, Declaration, abstract_type, abbreviation, operator, abstract_operator, module_type, concrete_module, abstract_module, axiom_of, lemma, terminating}
-use Rattle.gb_holds.specs.Adversary.{Adversary, type_named}
-use Rattle.gb_holds.specs.Naming.{AnyName, EachName}
-use Rattle.gb_holds.specs.Settings.{Chosen, Table, Interpretation, interpreted, with_program, types_of, bare, setting}
-use Rattle.gb_holds.specs.Holds.{EachProgram, declared_modules}
-use Rattle.gb_holds.specs.Within.{IsWithin}
+use Rattle.gb_meaning.specs.Declared.{Declarations, Declaration, abstract_type, abbreviation, operator, abstract_operator, module_type, concrete_module, abstract_module, axiom_of, lemma, terminating}
+use Rattle.gb_meaning.specs.Adversary.{Adversary, type_named}
+use Rattle.gb_meaning.specs.Naming.{AnyName, EachName}
+use Rattle.gb_meaning.specs.Settings.{Chosen, Table, Interpretation, interpreted, with_program, types_of, bare, setting}
+use Rattle.gb_meaning.specs.Holds.{EachProgram, declared_modules}
+use Rattle.gb_meaning.specs.Within.{IsWithin}
 use Rattle.gb_typing.specs.Naming.{NoName, OperatorsName}
 use Rattle.gb_typing.proofs.KeptApart.{AreOther, apart_more, off_apart}
 use Rattle.gb_typing.proofs.OperatorsAlike.{operators-agree}

@@ -11,10 +11,10 @@ use Rattle.gb_meaning.specs.Commands.{statements}
 use Rattle.gb_meaning.specs.Names.{Name}
 use Rattle.gb_meaning.specs.Program.Routine.{routine}
 use Rattle.gb_meaning.specs.Setting.{Setting}
-use Rattle.gb_holds.specs.Declared.{Declarations, module_named}
-use Rattle.gb_holds.specs.Linking.{linked_procedure}
-use Rattle.gb_holds.specs.Modules.{no_module}
-use Rattle.gb_holds.specs.Settings.{Interpretation, types_of, bare, with_operators, with_abstract_programs, linked_modules, setting}
+use Rattle.gb_meaning.specs.Declared.{Declarations, module_named}
+use Rattle.gb_meaning.specs.Linking.{linked_procedure}
+use Rattle.gb_meaning.specs.Modules.{no_module}
+use Rattle.gb_meaning.specs.Settings.{Interpretation, types_of, bare, with_operators, with_abstract_programs, linked_modules, setting}
 use Rattle.gb_typing.specs.Chosen.{AreUnchosen}
 use Rattle.gb_typing.specs.Context.{Context, procedure}
 use Rattle.gb_typing.specs.Formulas.{with_module as with_bound}

@@ -4,11 +4,11 @@ use Rattle.std.proofs.lemmas.Bool.{false≢true}
 use Rattle.gb_core.specs.declared.var.Var.{Var}
 use Rattle.gb_meaning.specs.Names.{Name}
 use Rattle.gb_meaning.specs.Program.{Routine}
-use Rattle.gb_holds.specs.Declared.{Declarations}
-use Rattle.gb_holds.specs.Modules.{Applied, Modules, with_module}
-use Rattle.gb_holds.specs.Adversary.{type_named, with_oracles, abstract_footprint}
-use Rattle.gb_holds.specs.Settings.{Chosen, is_chosen, program_footprint, with_abstract_footprints, with_abstract_programs}
-use Rattle.gb_holds.specs.Naming.{IsFresh}
+use Rattle.gb_meaning.specs.Declared.{Declarations}
+use Rattle.gb_meaning.specs.Modules.{Applied, Modules, with_module}
+use Rattle.gb_meaning.specs.Adversary.{type_named, with_oracles, abstract_footprint}
+use Rattle.gb_meaning.specs.Settings.{Chosen, is_chosen, program_footprint, with_abstract_footprints, with_abstract_programs}
+use Rattle.gb_meaning.specs.Naming.{IsFresh}
 use Rattle.gb_typing.specs.Naming.{chosen_names, IsAmong, IsKept}
 use Rattle.gb_typing.proofs.KeptNames.{unless, among-behind, kept-behind}
 

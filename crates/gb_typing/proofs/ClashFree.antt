@@ -16,7 +16,7 @@ use Rattle.gb_walk.specs.Clash.{Exclusions, variables_read, excludes, clashes, c
 use Rattle.gb_meaning.specs.Names.{Name}
 use Rattle.gb_meaning.specs.Setting.{Setting}
 use Rattle.gb_meaning.specs.Values.{Global}
-use Rattle.gb_holds.specs.Footprints.{is_global}
+use Rattle.gb_meaning.specs.Footprints.{is_global}
 use Rattle.gb_laws.specs.Uses.{Use, Uses, IsWithin}
 use Rattle.gb_laws.specs.Uses.Use.{read, bound, globals, starts, binds_own, binds_sides}
 use Rattle.gb_laws.specs.Written.{IsSide}

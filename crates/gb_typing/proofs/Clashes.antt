@@ -16,7 +16,7 @@ use Rattle.gb_meaning.specs.Memory.{Memory, read_global, write_global, write_glo
 use Rattle.gb_meaning.specs.Setting.{Setting}
 use Rattle.gb_laws.specs.Writes.{key_of_global}
 use Rattle.gb_laws.proofs.Cells.{get_at-other}
-use Rattle.gb_holds.specs.Footprints.{is_global}
+use Rattle.gb_meaning.specs.Footprints.{is_global}
 use Rattle.gb_typing.specs.Puts.{IsWhole, Leaves, share, clash}
 use Rattle.gb_typing.proofs.Globals.{or_false, same_global, none_of, globals_left}
 use Rattle.gb_typing.proofs.Writing.{read_other}

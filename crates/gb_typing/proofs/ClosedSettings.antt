@@ -7,15 +7,15 @@ use Rattle.gb_goal.specs.Scope as scope
 use Rattle.gb_meaning.specs.Names.{Name}
 use Rattle.gb_meaning.specs.Program.{Routine}
 use Rattle.gb_meaning.specs.Setting.{Setting}
-use Rattle.gb_holds.specs.Adversary.{or_none, type_named, with_oracles, abstract_footprint}
-use Rattle.gb_holds.specs.Declared.{Declarations, declared, ModuleType, abstract_type, abbreviation, operator, abstract_operator, module_type, concrete_module, abstract_module, axiom_of, lemma, terminating}
-use Rattle.gb_holds.specs.Footprints.{footprint_read}
-use Rattle.gb_holds.specs.Holds.{declared_modules}
-use Rattle.gb_holds.specs.Linking.{linked_procedure}
-use Rattle.gb_holds.specs.Modules.{no_module, modules_of}
-use Rattle.gb_holds.specs.Modules as linked
-use Rattle.gb_holds.specs.Programs.{IsProgramFor}
-use Rattle.gb_holds.specs.Settings.{Chosen, Interpretation, types_of, bare, with_operators, with_abstract_programs, with_abstract_footprints, linked_modules, footprints, setting}
+use Rattle.gb_meaning.specs.Adversary.{or_none, type_named, with_oracles, abstract_footprint}
+use Rattle.gb_meaning.specs.Declared.{Declarations, declared, ModuleType, abstract_type, abbreviation, operator, abstract_operator, module_type, concrete_module, abstract_module, axiom_of, lemma, terminating}
+use Rattle.gb_meaning.specs.Footprints.{footprint_read}
+use Rattle.gb_meaning.specs.Holds.{declared_modules}
+use Rattle.gb_meaning.specs.Linking.{linked_procedure}
+use Rattle.gb_meaning.specs.Modules.{no_module, modules_of}
+use Rattle.gb_meaning.specs.Modules as linked
+use Rattle.gb_meaning.specs.Programs.{IsProgramFor}
+use Rattle.gb_meaning.specs.Settings.{Chosen, Interpretation, types_of, bare, with_operators, with_abstract_programs, with_abstract_footprints, linked_modules, footprints, setting}
 use Rattle.gb_typing.specs.Chosen.{chosen_under, IsChosenIf, AreChosen, AreUnchosen, IsChosenOver}
 use Rattle.gb_typing.specs.Context.{Context}
 use Rattle.gb_typing.specs.Formulas.{IsKnown, with_module as with_bound}

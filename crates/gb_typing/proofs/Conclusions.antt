@@ -8,7 +8,7 @@ use Rattle.gb_terms.specs.declared.term.Head.TheVariants as head
 use Rattle.gb_terms.specs.declared.term.Head.TheVariants.{Proc, Body'}
 use Rattle.gb_meaning.specs.Judgments.{IsSoundForm}
 use Rattle.gb_meaning.specs.Setting.{Setting}
-use Rattle.gb_holds.specs.Truth.{has_module, last_has_module, Choice}
+use Rattle.gb_meaning.specs.Truth.{has_module, last_has_module, Choice}
 use Rattle.gb_laws.specs.Typing.{types_of, IsHead}
 use Rattle.gb_laws.specs.Typing.Binder.{value, memory}
 use Rattle.gb_typing.specs.Context.{Context, erased, with_own, within}

@@ -4,7 +4,7 @@ use Rattle.std.proofs.Math.Path.{fun_ext}
 use Rattle.gb_core.specs.declared.value.Value.{Value}
 use Rattle.gb_core.specs.declared.var.Var.{Var}
 use Rattle.gb_terms.specs.declared.term.Term.{Term}
-use Rattle.gb_coupling.specs.WeightedList.{WeightedList, bind, dmap, scale, bit}
+use Rattle.gb_dist.specs.WeightedList.{WeightedList, bind, dmap, scale, bit}
 use Rattle.gb_meaning.specs.Names.{Map}
 use Rattle.gb_meaning.specs.Memory.{Memory, assigned, write, arguments, outcome}
 use Rattle.gb_meaning.specs.Program.{Program, Routine, Oracle}
@@ -13,10 +13,10 @@ use Rattle.gb_meaning.specs.Program.Routine.{routine}
 use Rattle.gb_meaning.specs.Setting.{Setting}
 use Rattle.gb_meaning.specs.State.{closed, inside}
 use Rattle.gb_meaning.specs.Runs.{most_turns, valued, is_true, new_frame, outcomes}
-use Rattle.gb_holds.specs.Linking.{Oracles, link, link_routine, answered}
-use Rattle.gb_holds.specs.Adversary.{oracle_eq}
-use Rattle.gb_holds.specs.Counted.{Tallied, further, counted_turns, answers, counted, counted_outcomes}
-use Rattle.gb_holds.specs.Bounds.{counted_if_there}
+use Rattle.gb_meaning.specs.Linking.{Oracles, link, link_routine, answered}
+use Rattle.gb_meaning.specs.Adversary.{oracle_eq}
+use Rattle.gb_meaning.specs.Counted.{Tallied, further, counted_turns, answers, counted, counted_outcomes}
+use Rattle.gb_meaning.specs.Bounds.{counted_if_there}
 use Rattle.gb_typing.specs.Agreement.{SameProgram, SameRoutine}
 use Rattle.gb_typing.proofs.SamePrograms.{write_same, assigned_same, first_same, parameters_same, valued_same, guard_same, turns_same, arguments_same, distribution_same, returned_same, size_same, outcomes_same}
 

@@ -5,11 +5,11 @@ use Rattle.std.proofs.lemmas.Slice.Eq.{bytes_eq-Decides}
 use Rattle.gb_meaning.specs.Names.{Name}
 use Rattle.gb_meaning.specs.Program.{Routine}
 use Rattle.gb_meaning.specs.Setting.{Setting}
-use Rattle.gb_holds.specs.Declared.{Declarations, abstract_type, abbreviation, operator, abstract_operator, module_type, concrete_module, abstract_module, axiom_of, lemma, terminating}
-use Rattle.gb_holds.specs.Linking.{linked_procedure}
-use Rattle.gb_holds.specs.Modules.{Applied, with_module, module_read, modules_of}
-use Rattle.gb_holds.specs.Modules as linked
-use Rattle.gb_holds.specs.Settings.{Chosen}
+use Rattle.gb_meaning.specs.Declared.{Declarations, abstract_type, abbreviation, operator, abstract_operator, module_type, concrete_module, abstract_module, axiom_of, lemma, terminating}
+use Rattle.gb_meaning.specs.Linking.{linked_procedure}
+use Rattle.gb_meaning.specs.Modules.{Applied, with_module, module_read, modules_of}
+use Rattle.gb_meaning.specs.Modules as linked
+use Rattle.gb_meaning.specs.Settings.{Chosen}
 use Rattle.gb_typing.specs.Modules.{Interface, Modules, functor_type, of_functor_type, with_interface}
 use Rattle.gb_typing.specs.Context.{Context}
 use Rattle.gb_typing.specs.Chosen.{chosen_under, AreUnchosen, FitAt}

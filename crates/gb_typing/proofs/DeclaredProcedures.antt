@@ -16,9 +16,9 @@ use Rattle.gb_goal.specs.Scope as scope
 use Rattle.gb_goal.specs.Scope.{as_module, entry_of, module_of, module_type_of, procedure_of}
 use Rattle.gb_goal.proofs.Interfaces.{declared_types}
 use Rattle.gb_meaning.specs.Names.{Name}
-use Rattle.gb_holds.specs.Declared.{Declarations, ModuleType, declaration_of, declared}
-use Rattle.gb_holds.specs.Holds.{declared_modules}
-use Rattle.gb_holds.specs.Naming.{EachCallOf}
+use Rattle.gb_meaning.specs.Declared.{Declarations, ModuleType, declaration_of, declared}
+use Rattle.gb_meaning.specs.Holds.{declared_modules}
+use Rattle.gb_meaning.specs.Naming.{EachCallOf}
 use Rattle.gb_typing.specs.Context.{Context, procedure}
 use Rattle.gb_typing.specs.Formulas.{IsKnown}
 use Rattle.gb_typing.specs.Modules.{Interface, Modules, ProcedureType, fits, functor_type, given, interface_at, interfaces_at, is_complete, lacking, left_over, of_complete, procedure_type, provides, serve}

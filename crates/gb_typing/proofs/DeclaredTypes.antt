@@ -8,7 +8,7 @@ use Rattle.gb_goal.specs.declared.sequent.Sequent.{Sequent}
 use Rattle.gb_goal.specs.Scope as scope
 use Rattle.gb_goal.specs.Scope.{as_module_type, entry_of}
 use Rattle.gb_meaning.specs.Names.{Name}
-use Rattle.gb_holds.specs.Declared.{Declaration, Declarations, declaration_of, declared, module_type_in, module_type_of, abstract_type, abbreviation, operator, abstract_operator, module_type, concrete_module, abstract_module, axiom_of, lemma, terminating}
+use Rattle.gb_meaning.specs.Declared.{Declaration, Declarations, declaration_of, declared, module_type_in, module_type_of, abstract_type, abbreviation, operator, abstract_operator, module_type, concrete_module, abstract_module, axiom_of, lemma, terminating}
 use Rattle.gb_typing.specs.Context.{Context}
 use Rattle.gb_typing.specs.Formulas.{with_module}
 use Rattle.gb_typing.specs.Scopes.{nothing, with_declared, with_each, context_of, is_declared, AreTypedAfter, IsTypedScope}

@@ -2,8 +2,8 @@
 use Rattle.std.proofs.Common.{◌≡◌, true, ◌↔◌, List, refl, sym, subst}
 use Rattle.gb_terms.specs.declared.decl.TypedName.{TypedName}
 use Rattle.gb_terms.specs.declared.term.Head.TheBlock as B
-use Rattle.gb_coupling.specs.WeightedList.{Every}
-use Rattle.gb_coupling.specs.Coupling.{Coupling}
+use Rattle.gb_dist.specs.WeightedList.{Every}
+use Rattle.gb_dist.specs.Coupling.{Coupling}
 use Rattle.gb_meaning.specs.Memory.{Memory}
 use Rattle.gb_meaning.specs.Setting.{Setting}
 use Rattle.gb_meaning.specs.State.{State, at, between}

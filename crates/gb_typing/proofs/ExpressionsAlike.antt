@@ -8,8 +8,8 @@ use Rattle.gb_terms.specs.declared.module.Mexp.{Mexp, Row_of-Mexp, end_of-Mexp, 
 use Rattle.gb_terms.specs.declared.module.Mexp.TheVariants.{Name as named, Apply'}
 use Rattle.gb_terms.specs.declared.module.ProcRef.{ProcRef}
 use Rattle.gb_meaning.specs.Names.{Name}
-use Rattle.gb_holds.specs.Modules.{Procedures, Functor, Applied, found, closed, argument, module_at, modules_at, procedure_at}
-use Rattle.gb_holds.specs.Modules as linked
+use Rattle.gb_meaning.specs.Modules.{Procedures, Functor, Applied, found, closed, argument, module_at, modules_at, procedure_at}
+use Rattle.gb_meaning.specs.Modules as linked
 use Rattle.gb_typing.specs.Modules.{ProcedureType, FunctorType, Interface, Modules, has_type, provides, is_complete, serve, fits, left_over, lacking, given, interface_at, interfaces_at, of_complete, procedure_of, procedure_type, without_lacks, of_functor_type}
 use Rattle.gb_typing.specs.Alike.{Agree, AreAgreeing, IsAlike, AreAlike, StandAlike, AreOpenAlike, AreAllAlike, applied_at}
 

@@ -15,8 +15,8 @@ use Rattle.gb_meaning.specs.Program.Program.{assign, sample, branch, loop}
 use Rattle.gb_meaning.specs.Program.Routine.{routine}
 use Rattle.gb_meaning.specs.Setting.{Setting}
 use Rattle.gb_meaning.proofs.Bodies.{statement_call, statement_if, statement_while}
-use Rattle.gb_holds.specs.Footprints.{of_callee, variables, variables_in, touched, touched_in, body_touched, globals_among, in_order, var_order, footprint_read}
-use Rattle.gb_holds.specs.Linking.{calling, linked_procedure}
+use Rattle.gb_meaning.specs.Footprints.{of_callee, variables, variables_in, touched, touched_in, body_touched, globals_among, in_order, var_order, footprint_read}
+use Rattle.gb_meaning.specs.Linking.{calling, linked_procedure}
 use Rattle.gb_goal.specs.Instances.{put_in_reference, call_with, row_with, calls_with}
 use Rattle.gb_typing.specs.Following.{FollowsCalls}
 use mathlib.Core.Former.{Count}

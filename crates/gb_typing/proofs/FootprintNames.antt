@@ -17,13 +17,13 @@ use Rattle.gb_terms.specs.declared.term.Instr.{Instr, Row_of-Instr, end_of-Instr
 use Rattle.gb_terms.specs.declared.term.Head.TheVariants.{Assign, Sample, Call', If', While'}
 use Rattle.gb_meaning.specs.Names.{Name}
 use Rattle.gb_meaning.specs.Program.{Oracle}
-use Rattle.gb_holds.specs.Declared.{Declarations, ModuleType, Signature, abstract_type, abbreviation, operator, abstract_operator, module_type, concrete_module, abstract_module, axiom_of, lemma, terminating}
-use Rattle.gb_holds.specs.Modules.{Procedures, Functor, Applied, Modules, found, closed, no_module, argument, module_at, modules_at, procedure_at, with_module, with_params, with_procedures, module_read, modules_of}
-use Rattle.gb_holds.specs.Linking.{oracle_of}
-use Rattle.gb_holds.specs.Adversary.{type_named, oracles_called, oracle_footprints, signature_footprints, abstract_footprint}
-use Rattle.gb_holds.specs.Footprints.{placed, inserted, in_order, var_order, globals_among, of_callee, variables, variables_in, touched, touched_in, body_touched, footprint_read, of_all, head_name, own_entry, footprint}
-use Rattle.gb_holds.specs.Settings.{Chosen, is_chosen, with_abstract_footprints, footprints}
-use Rattle.gb_holds.specs.Naming.{EachName, EachNameIn, EachCall, EachCallIn, EachCallOf, IsFresh}
+use Rattle.gb_meaning.specs.Declared.{Declarations, ModuleType, Signature, abstract_type, abbreviation, operator, abstract_operator, module_type, concrete_module, abstract_module, axiom_of, lemma, terminating}
+use Rattle.gb_meaning.specs.Modules.{Procedures, Functor, Applied, Modules, found, closed, no_module, argument, module_at, modules_at, procedure_at, with_module, with_params, with_procedures, module_read, modules_of}
+use Rattle.gb_meaning.specs.Linking.{oracle_of}
+use Rattle.gb_meaning.specs.Adversary.{type_named, oracles_called, oracle_footprints, signature_footprints, abstract_footprint}
+use Rattle.gb_meaning.specs.Footprints.{placed, inserted, in_order, var_order, globals_among, of_callee, variables, variables_in, touched, touched_in, body_touched, footprint_read, of_all, head_name, own_entry, footprint}
+use Rattle.gb_meaning.specs.Settings.{Chosen, is_chosen, with_abstract_footprints, footprints}
+use Rattle.gb_meaning.specs.Naming.{EachName, EachNameIn, EachCall, EachCallIn, EachCallOf, IsFresh}
 use Rattle.gb_typing.specs.Naming.{IsKept, VariableNames, VariablesName}
 use Rattle.gb_typing.specs.Added.{param_names, CodeNames, CodesName, ModulesName}
 use Rattle.gb_typing.proofs.KeptNames.{kept-behind, each-name, variables-map}

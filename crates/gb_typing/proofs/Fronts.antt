@@ -4,7 +4,7 @@ use Rattle.std.proofs.lemmas.Bool.{false≢true}
 use Rattle.gb_terms.specs.declared.op.Op.TheVariants.{Implies}
 use Rattle.gb_terms.specs.declared.term.Term.{Term, Term', end_of-Head, more_of-Head}
 use Rattle.gb_terms.specs.declared.term.Head.TheVariants as head
-use Rattle.gb_holds.specs.Truth.{has_module}
+use Rattle.gb_meaning.specs.Truth.{has_module}
 use Rattle.gb_goal.specs.Goal.{goal_at, goal_of}
 use Rattle.gb_goal.specs.Goal.Goal.{ambient}
 use Rattle.gb_laws.proofs.Trees.{out_is}

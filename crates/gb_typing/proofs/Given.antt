@@ -8,7 +8,7 @@ use Rattle.gb_typing.specs.Context.{Context}
 use Rattle.gb_goal.specs.Goal.{Goal}
 use Rattle.gb_typing.specs.Goals.{IsTypedGoal}
 use Rattle.gb_goal.specs.Answers.{Answer}
-use Rattle.gb_holds.specs.Declared.{Declarations}
+use Rattle.gb_meaning.specs.Declared.{Declarations}
 use Rattle.gb_typing.specs.Rules.{Implies, ImpliesIn}
 use Rattle.gb_goal.specs.Answers.Answer.{given, refused}
 use Rattle.gb_goal.specs.Rows.{refusing}

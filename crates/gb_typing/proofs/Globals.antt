@@ -21,8 +21,8 @@ use Rattle.gb_laws.specs.Cells.{Key, get_at}
 use Rattle.gb_laws.specs.Cells.Key.{global}
 use Rattle.gb_laws.specs.Writes.{key_of_global, IsNone}
 use Rattle.gb_laws.proofs.Cells.{get_at-other}
-use Rattle.gb_holds.specs.Footprints.{is_global}
-use Rattle.gb_holds.specs.Programs.{AreOnce}
+use Rattle.gb_meaning.specs.Footprints.{is_global}
+use Rattle.gb_meaning.specs.Programs.{AreOnce}
 use Rattle.gb_laws.specs.Finite.{IsInhabited, AreVariables}
 use Rattle.gb_laws.proofs.Sizes.{no_globs}
 use Rattle.gb_typing.proofs.Writing.{read_written}

@@ -9,7 +9,7 @@ use Rattle.gb_goal.specs.declared.sequent.Sequent.{Sequent}
 use Rattle.gb_meaning.specs.Names.{Name}
 use Rattle.gb_meaning.specs.Written.{local_type}
 use Rattle.gb_laws.specs.Typing.{OperatorType}
-use Rattle.gb_holds.specs.Declared.{Declarations, Declaration, ModuleType, abstract_type, abbreviation, operator, abstract_operator, module_type, concrete_module, abstract_module, axiom_of, lemma, terminating}
+use Rattle.gb_meaning.specs.Declared.{Declarations, Declaration, ModuleType, abstract_type, abbreviation, operator, abstract_operator, module_type, concrete_module, abstract_module, axiom_of, lemma, terminating}
 use Rattle.gb_typing.specs.Context.{Context}
 use Rattle.gb_typing.specs.Modules.{Interface, Modules, signature_types, signatures_of, params_in, functor_type, of_functor_type, with_interface}
 use Rattle.gb_typing.specs.Formulas.{IsKnown, with_module}

@@ -5,17 +5,17 @@ use Rattle.gb_meaning.specs.Values.{Global}
 use Rattle.gb_meaning.specs.Program.{Routine, Oracle}
 use Rattle.gb_meaning.specs.Setting.{Setting}
 use Rattle.gb_meaning.specs.Judgments.{IsSoundIfThere}
-use Rattle.gb_holds.specs.Declared.{Declarations, Signature, abstract_module}
-use Rattle.gb_holds.specs.Modules.{found}
-use Rattle.gb_holds.specs.Linking.{Oracles, link_routine, oracle_of}
-use Rattle.gb_holds.specs.Adversary.{callable}
-use Rattle.gb_holds.specs.Programs.{IsProcedureFor}
-use Rattle.gb_holds.specs.Settings.{with_program, setting}
-use Rattle.gb_holds.specs.Holds.{interpretation, Holds}
-use Rattle.gb_holds.specs.Naming.{AnyName}
-use Rattle.gb_holds.specs.Examples.{oracle_type, oracle_signature, any_oracle, oracle_and_adversary, nothing_said}
-use Rattle.gb_holds.proofs.Sounds.{typed_sound_routine}
-use Rattle.gb_holds.proofs.EachProgram.{found-each_linked, nothing_said_holds}
+use Rattle.gb_meaning.specs.Declared.{Declarations, Signature, abstract_module}
+use Rattle.gb_meaning.specs.Modules.{found}
+use Rattle.gb_meaning.specs.Linking.{Oracles, link_routine, oracle_of}
+use Rattle.gb_meaning.specs.Adversary.{callable}
+use Rattle.gb_meaning.specs.Programs.{IsProcedureFor}
+use Rattle.gb_meaning.specs.Settings.{with_program, setting}
+use Rattle.gb_meaning.specs.Holds.{interpretation, Holds}
+use Rattle.gb_meaning.specs.Naming.{AnyName}
+use Rattle.gb_meaning.specs.HoldingExamples.{oracle_type, oracle_signature, any_oracle, oracle_and_adversary, nothing_said}
+use Rattle.gb_meaning.proofs.Sounds.{typed_sound_routine}
+use Rattle.gb_meaning.proofs.EachProgram.{found-each_linked, nothing_said_holds}
 use Rattle.gb_typing.specs.Naming.{NamesIfThere}
 use Rattle.gb_typing.specs.Added.{AreAddedTo}
 use Rattle.gb_typing.proofs.TypedNames.{linked-routine-names}

@@ -10,8 +10,8 @@ use Rattle.gb_goal.specs.declared.sequent.Sequent.{Sequent}
 use Rattle.gb_goal.specs.Scope.{proc_of}
 use Rattle.gb_meaning.specs.Names.{Name}
 use Rattle.gb_meaning.specs.Written.{local_type}
-use Rattle.gb_holds.specs.Declared.{Declarations, concrete_module}
-use Rattle.gb_holds.specs.Modules.{Procedures, found}
+use Rattle.gb_meaning.specs.Declared.{Declarations, concrete_module}
+use Rattle.gb_meaning.specs.Modules.{Procedures, found}
 use Rattle.gb_typing.specs.Context.{Context, procedure}
 use Rattle.gb_typing.specs.Modules.{ProcedureType, Interface, of_complete, procedure_of}
 use Rattle.gb_typing.specs.Programs.{IsProcedure, type_of_procedure}

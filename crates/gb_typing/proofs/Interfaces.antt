@@ -6,8 +6,8 @@ use Rattle.gb_terms.specs.declared.module.Mexp.{Mexp, Row_of-Mexp, end_of-Mexp, 
 use Rattle.gb_terms.specs.declared.module.Mexp.TheVariants.{Name as named, Apply'}
 use Rattle.gb_terms.specs.declared.module.ProcRef.{ProcRef}
 use Rattle.gb_meaning.specs.Names.{Name}
-use Rattle.gb_holds.specs.Declared.{ModuleType}
-use Rattle.gb_holds.specs.Modules.{Procedures, found}
+use Rattle.gb_meaning.specs.Declared.{ModuleType}
+use Rattle.gb_meaning.specs.Modules.{Procedures, found}
 use Rattle.gb_typing.specs.Modules.{ProcedureType, FunctorType, Interface, Modules, has_type, provides, serve, fits, left_over, lacking, given, interface_at, interfaces_at, of_complete, procedure_of, procedure_type, with_interface}
 use Rattle.gb_typing.specs.Scopes.{with_type}
 use mathlib.Core.Former.{Count}

@@ -9,12 +9,12 @@ use Rattle.gb_core.specs.declared.ty.Ty.{Ty}
 use Rattle.gb_terms.specs.declared.module.Mexp.TheVariants.{Name as named}
 use Rattle.gb_meaning.specs.Names.{Name}
 use Rattle.gb_meaning.specs.Values.{Global, World}
-use Rattle.gb_holds.specs.Declared.{Declarations}
-use Rattle.gb_holds.specs.Footprints.{is_global}
-use Rattle.gb_holds.specs.Programs.{AreIn}
-use Rattle.gb_holds.specs.Settings.{Chosen, Interpretation, declared_globals, is_chosen, program_footprint, setting}
-use Rattle.gb_holds.specs.Typing.{global_type}
-use Rattle.gb_holds.specs.Within.{AreApart, KeepsOff, own_globals}
+use Rattle.gb_meaning.specs.Declared.{Declarations}
+use Rattle.gb_meaning.specs.Footprints.{is_global}
+use Rattle.gb_meaning.specs.Programs.{AreIn}
+use Rattle.gb_meaning.specs.Settings.{Chosen, Interpretation, declared_globals, is_chosen, program_footprint, setting}
+use Rattle.gb_meaning.specs.Typing.{global_type}
+use Rattle.gb_meaning.specs.Within.{AreApart, KeepsOff, own_globals}
 use Rattle.gb_typing.specs.Chosen.{KeepsApart, chosen_under}
 use Rattle.gb_typing.proofs.Globals.{or_false}
 use Rattle.gb_typing.proofs.OwnFootprint.{program_there, world_footprint}

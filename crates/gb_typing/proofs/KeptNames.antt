@@ -9,9 +9,9 @@ use Rattle.gb_core.specs.declared.var.Var.TheVariants as var
 use Rattle.gb_terms.specs.declared.module.Mexp.{Mexp, Row_of-Mexp, end_of-Mexp, more_of-Mexp}
 use Rattle.gb_terms.specs.declared.module.Mexp.TheVariants.{Name as named, Apply'}
 use Rattle.gb_meaning.specs.Names.{Name}
-use Rattle.gb_holds.specs.Declared.{Declarations}
-use Rattle.gb_holds.specs.Settings.{Chosen}
-use Rattle.gb_holds.specs.Naming.{EachName, EachNameIn, IsFresh}
+use Rattle.gb_meaning.specs.Declared.{Declarations}
+use Rattle.gb_meaning.specs.Settings.{Chosen}
+use Rattle.gb_meaning.specs.Naming.{EachName, EachNameIn, IsFresh}
 use Rattle.gb_typing.specs.Naming.{chosen_names, IsAmong, IsKept, VariablesName}
 
 -- what the two choices share decides

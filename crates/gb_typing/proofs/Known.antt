@@ -3,10 +3,10 @@ use Rattle.std.proofs.Common.{◌≡◌, Bool, true, false, if◌then◌else◌,
 use Rattle.gb_terms.specs.declared.decl.Module.{Module}
 use Rattle.gb_terms.specs.declared.decl.Proc.{Proc}
 use Rattle.gb_meaning.specs.Names.{Name}
-use Rattle.gb_holds.specs.Declared.{Declarations, Declaration, abstract_type, abbreviation, operator, abstract_operator, module_type, concrete_module, abstract_module, axiom_of, lemma, terminating}
-use Rattle.gb_holds.specs.Modules.{Modules, Reading, found, with_module, module_read, modules_of}
-use Rattle.gb_holds.specs.Naming.{IsFresh}
-use Rattle.gb_holds.proofs.Later.{declared_after, fresh_same}
+use Rattle.gb_meaning.specs.Declared.{Declarations, Declaration, abstract_type, abbreviation, operator, abstract_operator, module_type, concrete_module, abstract_module, axiom_of, lemma, terminating}
+use Rattle.gb_meaning.specs.Modules.{Modules, Reading, found, with_module, module_read, modules_of}
+use Rattle.gb_meaning.specs.Naming.{IsFresh}
+use Rattle.gb_meaning.proofs.Later.{declared_after, fresh_same}
 use Rattle.gb_typing.specs.Context.{Context}
 use Rattle.gb_typing.specs.Modules.{ProcedureType, Interface, functor_type, of_functor_type}
 use Rattle.gb_typing.specs.Programs.{type_of_procedure}

@@ -17,12 +17,12 @@ use Rattle.gb_meaning.specs.State.{State}
 use Rattle.gb_meaning.specs.Judgments.{Judge, IsFair}
 use Rattle.gb_meaning.specs.Written.{type_of}
 use Rattle.gb_laws.specs.Operators.{item}
-use Rattle.gb_holds.specs.Declared.{Declarations, Declaration, abstract_type, abbreviation, operator, abstract_operator, module_type, concrete_module, abstract_module, axiom_of, lemma, terminating}
-use Rattle.gb_holds.specs.Settings.{Interpretation, with_program, setting, types_of}
-use Rattle.gb_holds.specs.Truth.{Truth}
-use Rattle.gb_holds.specs.Holds.{EachProgram, AreValues, context, AreTrue, declared_modules, interpretation, InEachModel, InEachSetting, Holds}
-use Rattle.gb_holds.proofs.Fronts.{without_modules}
-use Rattle.gb_holds.proofs.SettingTypes.{setting-types}
+use Rattle.gb_meaning.specs.Declared.{Declarations, Declaration, abstract_type, abbreviation, operator, abstract_operator, module_type, concrete_module, abstract_module, axiom_of, lemma, terminating}
+use Rattle.gb_meaning.specs.Settings.{Interpretation, with_program, setting, types_of}
+use Rattle.gb_meaning.specs.Truth.{Truth}
+use Rattle.gb_meaning.specs.Holds.{EachProgram, AreValues, context, AreTrue, declared_modules, interpretation, InEachModel, InEachSetting, Holds}
+use Rattle.gb_meaning.proofs.Fronts.{without_modules}
+use Rattle.gb_meaning.proofs.SettingTypes.{setting-types}
 use Rattle.gb_typing.specs.Context.{Context}
 use Rattle.gb_typing.specs.Formulas.{with_module}
 use Rattle.gb_typing.specs.Sequents.{with_modules, of_sequent, IsTypedSequent}

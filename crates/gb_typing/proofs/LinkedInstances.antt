@@ -10,10 +10,10 @@ use Rattle.gb_terms.specs.declared.module.Mexp.TheVariants.{Name as named, Apply
 use Rattle.gb_terms.specs.declared.module.ProcRef.{ProcRef}
 use Rattle.gb_goal.specs.Scope.{proc_of}
 use Rattle.gb_meaning.specs.Names.{Name}
-use Rattle.gb_holds.specs.Declared.{Declarations, Declaration, ModuleType, module_in, module_named, abstract_type, abbreviation, operator, abstract_operator, module_type, concrete_module, abstract_module, axiom_of, lemma, terminating}
-use Rattle.gb_holds.specs.Modules.{Procedures, Applied, Modules, Reading, found, argument, closed, module_at, modules_at, procedure_at, no_module, with_module, with_params, with_procedures, module_read, modules_of}
-use Rattle.gb_holds.specs.Naming.{EachCallOf, IsFreshAmong}
-use Rattle.gb_holds.proofs.Procedures.{in_module, in_parts, stays, known}
+use Rattle.gb_meaning.specs.Declared.{Declarations, Declaration, ModuleType, module_in, module_named, abstract_type, abbreviation, operator, abstract_operator, module_type, concrete_module, abstract_module, axiom_of, lemma, terminating}
+use Rattle.gb_meaning.specs.Modules.{Procedures, Applied, Modules, Reading, found, argument, closed, module_at, modules_at, procedure_at, no_module, with_module, with_params, with_procedures, module_read, modules_of}
+use Rattle.gb_meaning.specs.Naming.{EachCallOf, IsFreshAmong}
+use Rattle.gb_meaning.proofs.Procedures.{in_module, in_parts, stays, known}
 use Rattle.gb_typing.specs.Context.{Context, procedure}
 use Rattle.gb_typing.specs.Modules.{ProcedureType, FunctorType, Interface, with_interface, functor_type, of_functor_type, fits, left_over, lacking, given, interface_at, interfaces_at}
 use Rattle.gb_typing.specs.Modules as typed

@@ -14,12 +14,12 @@ use Rattle.gb_meaning.specs.Names.{Name}
 use Rattle.gb_meaning.specs.Program.{Routine}
 use Rattle.gb_meaning.specs.Program.Routine.{routine}
 use Rattle.gb_meaning.specs.Setting.{Setting}
-use Rattle.gb_holds.specs.Declared.{declared}
-use Rattle.gb_holds.specs.Linking.{linked_procedure}
-use Rattle.gb_holds.specs.Modules.{procedure_at}
-use Rattle.gb_holds.specs.Modules as linked
-use Rattle.gb_holds.specs.Settings.{Interpretation, types_of, bare as bare_setting, with_operators, setting}
-use Rattle.gb_holds.proofs.Lists.{declared-module}
+use Rattle.gb_meaning.specs.Declared.{declared}
+use Rattle.gb_meaning.specs.Linking.{linked_procedure}
+use Rattle.gb_meaning.specs.Modules.{procedure_at}
+use Rattle.gb_meaning.specs.Modules as linked
+use Rattle.gb_meaning.specs.Settings.{Interpretation, types_of, bare as bare_setting, with_operators, setting}
+use Rattle.gb_meaning.proofs.Lists.{declared-module}
 use Rattle.gb_typing.specs.Chosen.{IsChosenOver}
 use Rattle.gb_typing.specs.Context.{procedure}
 use Rattle.gb_typing.specs.Scopes.{context_of, IsTypedScope}

@@ -18,7 +18,7 @@ use Rattle.gb_goal.specs.Scope as scope
 use Rattle.gb_goal.specs.Scope.{as_module, entry_of, module_of, module_type_of, proc_at, procedure_of}
 use Rattle.gb_goal.proofs.Interfaces.{declared_type}
 use Rattle.gb_meaning.specs.Names.{Name}
-use Rattle.gb_holds.specs.Declared.{ModuleType, concrete_module, declared}
+use Rattle.gb_meaning.specs.Declared.{ModuleType, concrete_module, declared}
 use Rattle.gb_typing.specs.Context.{Context, procedure}
 use Rattle.gb_typing.specs.Programs.{IsProcedure, type_of_procedure}
 use Rattle.gb_typing.specs.Scopes.{nothing, procedure_types, context_of, IsTypedScope}

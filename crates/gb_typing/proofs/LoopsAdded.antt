@@ -9,14 +9,14 @@ use Rattle.gb_meaning.specs.Names.{Name}
 use Rattle.gb_meaning.specs.Values.{World}
 use Rattle.gb_meaning.specs.Setting.{Setting}
 use Rattle.gb_meaning.specs.Commands.{statements}
-use Rattle.gb_holds.specs.Declared.{Declarations, ModuleType, module_named}
-use Rattle.gb_holds.specs.Naming.{AnyName, EachName, EachCallOf, IsFresh, IsTypeIn}
-use Rattle.gb_holds.specs.Adversary.{Adversary, type_named}
-use Rattle.gb_holds.specs.Programs.{IsProgramFor}
-use Rattle.gb_holds.specs.Settings.{Chosen, Table, Interpretation, interpreted, setting}
-use Rattle.gb_holds.specs.Holds.{param_bind, EachArgument, LoopsAreGood, ProcedureIsGood, ProcedureOfIsGood, IsTerminating}
-use Rattle.gb_holds.proofs.Later.{same_body}
-use Rattle.gb_holds.proofs.SameScope.{program-to}
+use Rattle.gb_meaning.specs.Declared.{Declarations, ModuleType, module_named}
+use Rattle.gb_meaning.specs.Naming.{AnyName, EachName, EachCallOf, IsFresh, IsTypeIn}
+use Rattle.gb_meaning.specs.Adversary.{Adversary, type_named}
+use Rattle.gb_meaning.specs.Programs.{IsProgramFor}
+use Rattle.gb_meaning.specs.Settings.{Chosen, Table, Interpretation, interpreted, setting}
+use Rattle.gb_meaning.specs.Holds.{param_bind, EachArgument, LoopsAreGood, ProcedureIsGood, ProcedureOfIsGood, IsTerminating}
+use Rattle.gb_meaning.proofs.Later.{same_body}
+use Rattle.gb_meaning.proofs.SameScope.{program-to}
 use Rattle.gb_typing.specs.Naming.{chosen_names, IsKept, AgreeOn, BodyNames}
 use Rattle.gb_typing.specs.Added.{IsBodyApart, AreParamsApart, IsProcedureApart, AreLoopsApart}
 use Rattle.gb_typing.proofs.Agreeing.{call-agrees, program_agrees}

@@ -11,11 +11,11 @@ use Rattle.gb_core.specs.declared.value.Value.{Value}
 use Rattle.gb_meaning.specs.Setting.{Meaning}
 use Rattle.gb_meaning.specs.Setting.Meaning.{finite, whole, fraction, weights}
 use Rattle.gb_meaning.specs.Values.{World, has}
-use Rattle.gb_holds.specs.Declared.{Declarations, abstract_type, abbreviation, operator, abstract_operator, module_type, concrete_module, abstract_module, axiom_of, lemma, terminating}
-use Rattle.gb_holds.specs.Globs.{EachGlob, EachGlobIn}
-use Rattle.gb_holds.specs.Naming.{AnyName}
-use Rattle.gb_holds.specs.Settings.{Chosen, Table, Interpretation, types_of, setting}
-use Rattle.gb_holds.specs.Holds.{IsModel, AreValues, IsResult, GiveResults, EachProgram, declared_modules, interpretation}
+use Rattle.gb_meaning.specs.Declared.{Declarations, abstract_type, abbreviation, operator, abstract_operator, module_type, concrete_module, abstract_module, axiom_of, lemma, terminating}
+use Rattle.gb_meaning.specs.Globs.{EachGlob, EachGlobIn}
+use Rattle.gb_meaning.specs.Naming.{AnyName}
+use Rattle.gb_meaning.specs.Settings.{Chosen, Table, Interpretation, types_of, setting}
+use Rattle.gb_meaning.specs.Holds.{IsModel, AreValues, IsResult, GiveResults, EachProgram, declared_modules, interpretation}
 use Rattle.gb_laws.specs.Finite.{AreFiniteWith, IsVariableType}
 use Rattle.gb_laws.proofs.Sizes.{no_globs as same_values}
 use Rattle.gb_typing.specs.Naming.{NoName, EachGlobAmong, OperatorsName}

@@ -8,14 +8,14 @@ use Rattle.gb_meaning.specs.Names.{Name}
 use Rattle.gb_meaning.specs.Values.{Global, World, Types}
 use Rattle.gb_meaning.specs.Setting.{Meaning}
 use Rattle.gb_meaning.specs.Setting.Meaning.{finite, whole, fraction}
-use Rattle.gb_holds.specs.Declared.{Declarations, abstract_type, abbreviation, operator, abstract_operator, module_type, concrete_module, abstract_module, axiom_of, lemma, terminating}
-use Rattle.gb_holds.specs.Globs.{EachGlob}
-use Rattle.gb_holds.specs.Programs.{AreIn}
-use Rattle.gb_holds.specs.Settings.{Table, Interpretation, types_of, setting, globals_from, declared_globals}
-use Rattle.gb_holds.specs.Holds.{AreValues, HaveVariableTypes, IsResult, GiveResults, AxiomsAreTrue, IsModel, interpretation}
-use Rattle.gb_holds.specs.Naming.{AnyName, IsFresh}
-use Rattle.gb_holds.proofs.Kept.{results-front, axioms-front}
-use Rattle.gb_holds.proofs.SettingTypes.{setting-types}
+use Rattle.gb_meaning.specs.Declared.{Declarations, abstract_type, abbreviation, operator, abstract_operator, module_type, concrete_module, abstract_module, axiom_of, lemma, terminating}
+use Rattle.gb_meaning.specs.Globs.{EachGlob}
+use Rattle.gb_meaning.specs.Programs.{AreIn}
+use Rattle.gb_meaning.specs.Settings.{Table, Interpretation, types_of, setting, globals_from, declared_globals}
+use Rattle.gb_meaning.specs.Holds.{AreValues, HaveVariableTypes, IsResult, GiveResults, AxiomsAreTrue, IsModel, interpretation}
+use Rattle.gb_meaning.specs.Naming.{AnyName, IsFresh}
+use Rattle.gb_meaning.proofs.Kept.{results-front, axioms-front}
+use Rattle.gb_meaning.proofs.SettingTypes.{setting-types}
 use Rattle.gb_typing.specs.Agreement.{SameValues}
 use Rattle.gb_typing.specs.Naming.{IsKept, EachGlobAmong, OperatorsName}
 use Rattle.gb_typing.specs.Formed.{AreAxiomsApart, IsScopeApart}

@@ -3,12 +3,12 @@ use Rattle.std.proofs.Common.{◌≡◌, ℕ, List, [], ◌∷◌, ◌++◌, ◌
 use Rattle.gb_goal.specs.declared.sequent.Sequent.{Sequent}
 use Rattle.gb_meaning.specs.Names.{Name}
 use Rattle.gb_meaning.specs.Values.{World}
-use Rattle.gb_holds.specs.Declared.{Declarations, abstract_type, abbreviation, operator, abstract_operator, module_type, concrete_module, abstract_module, axiom_of, lemma, terminating}
-use Rattle.gb_holds.specs.Settings.{Chosen, Table, types_of}
-use Rattle.gb_holds.specs.Holds.{EachProgram, IsTrueSequent, HaveVariableTypes, declared_modules, interpretation}
-use Rattle.gb_holds.specs.Naming.{AnyName, IsFresh}
-use Rattle.gb_holds.proofs.Kept.{declared-same}
-use Rattle.gb_holds.proofs.ModuleTypes.{types-fresh}
+use Rattle.gb_meaning.specs.Declared.{Declarations, abstract_type, abbreviation, operator, abstract_operator, module_type, concrete_module, abstract_module, axiom_of, lemma, terminating}
+use Rattle.gb_meaning.specs.Settings.{Chosen, Table, types_of}
+use Rattle.gb_meaning.specs.Holds.{EachProgram, IsTrueSequent, HaveVariableTypes, declared_modules, interpretation}
+use Rattle.gb_meaning.specs.Naming.{AnyName, IsFresh}
+use Rattle.gb_meaning.proofs.Kept.{declared-same}
+use Rattle.gb_meaning.proofs.ModuleTypes.{types-fresh}
 use Rattle.gb_typing.specs.Naming.{AreModulesOrStatements, OperatorsName}
 use Rattle.gb_typing.specs.Formed.{IsSequentApart, IsScopeApart}
 use Rattle.gb_typing.proofs.PlainGlobals.{EachPlain, plain_world}

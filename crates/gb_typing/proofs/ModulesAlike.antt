@@ -13,12 +13,12 @@ use Rattle.gb_terms.specs.declared.term.Head.TheVariants.{Assign, Sample, Call',
 use Rattle.gb_meaning.specs.Names.{Name}
 use Rattle.gb_meaning.specs.Program.Routine.{routine}
 use Rattle.gb_meaning.specs.Setting.{Setting}
-use Rattle.gb_holds.specs.Declared.{Declarations, abstract_type, abbreviation, operator, abstract_operator, module_type, concrete_module, abstract_module, axiom_of, lemma, terminating}
-use Rattle.gb_holds.specs.Modules.{Applied, Functor, Modules, Reading, no_module, found, argument, procedure_at, with_module, with_params, with_procedures, module_read, modules_of}
-use Rattle.gb_holds.specs.Linking.{calling, linked_procedure}
-use Rattle.gb_holds.specs.Footprints.{of_callee, variables, variables_in, touched, touched_in, body_touched, globals_among, in_order, var_order, footprint_read}
-use Rattle.gb_holds.specs.Naming.{EachName, EachCall, EachCallIn, EachCallOf, IsFresh}
-use Rattle.gb_holds.proofs.Later.{same_module, same_body}
+use Rattle.gb_meaning.specs.Declared.{Declarations, abstract_type, abbreviation, operator, abstract_operator, module_type, concrete_module, abstract_module, axiom_of, lemma, terminating}
+use Rattle.gb_meaning.specs.Modules.{Applied, Functor, Modules, Reading, no_module, found, argument, procedure_at, with_module, with_params, with_procedures, module_read, modules_of}
+use Rattle.gb_meaning.specs.Linking.{calling, linked_procedure}
+use Rattle.gb_meaning.specs.Footprints.{of_callee, variables, variables_in, touched, touched_in, body_touched, globals_among, in_order, var_order, footprint_read}
+use Rattle.gb_meaning.specs.Naming.{EachName, EachCall, EachCallIn, EachCallOf, IsFresh}
+use Rattle.gb_meaning.proofs.Later.{same_module, same_body}
 pub use Rattle.gb_typing.specs.Alike.{LooksAtCalls}
 use Rattle.gb_typing.specs.Naming.{IsKept}
 use Rattle.gb_typing.specs.Added.{param_names, CodesName, ModulesName}

@@ -10,11 +10,11 @@ use Rattle.gb_terms.specs.declared.decl.Proc.{Proc}
 use Rattle.gb_terms.specs.declared.module.Bind.{Bind}
 use Rattle.gb_meaning.specs.Names.{Name}
 use Rattle.gb_meaning.specs.Values.{Global}
-use Rattle.gb_holds.specs.Declared.{Declarations, abstract_type, abbreviation, operator, abstract_operator, module_type, concrete_module, abstract_module, axiom_of, lemma, terminating, module_in, module_named}
-use Rattle.gb_holds.specs.Footprints.{variables, body_touched}
-use Rattle.gb_holds.specs.Settings.{globals_from, declared_globals}
-use Rattle.gb_holds.specs.Holds.{declared_modules}
-use Rattle.gb_holds.specs.Naming.{EachName, IsFresh}
+use Rattle.gb_meaning.specs.Declared.{Declarations, abstract_type, abbreviation, operator, abstract_operator, module_type, concrete_module, abstract_module, axiom_of, lemma, terminating, module_in, module_named}
+use Rattle.gb_meaning.specs.Footprints.{variables, body_touched}
+use Rattle.gb_meaning.specs.Settings.{globals_from, declared_globals}
+use Rattle.gb_meaning.specs.Holds.{declared_modules}
+use Rattle.gb_meaning.specs.Naming.{EachName, IsFresh}
 use Rattle.gb_typing.specs.Naming.{IsAmong}
 use Rattle.gb_typing.specs.Added.{param_names, CodeNames, CodesName, ModulesName, AreBoundApart, IsNewModule, IsDeclared, AreBoundAsDeclared, IsClosedScope}
 use Rattle.gb_typing.proofs.KeptNames.{off, differ, either, by-either, each-name, variables-map}

@@ -5,11 +5,11 @@ use Rattle.std.proofs.lemmas.Bool.{false≢true}
 use Rattle.gb_terms.specs.declared.module.Mexp.TheVariants.{Name as named}
 use Rattle.gb_meaning.specs.Names.{Name}
 use Rattle.gb_meaning.specs.Values.{Global}
-use Rattle.gb_holds.specs.Declared.{Declarations}
-use Rattle.gb_holds.specs.Footprints.{is_global}
-use Rattle.gb_holds.specs.Programs.{AreOnce}
-use Rattle.gb_holds.specs.Settings.{Interpretation, types_of, setting}
-use Rattle.gb_holds.proofs.SettingTypes.{setting-types}
+use Rattle.gb_meaning.specs.Declared.{Declarations}
+use Rattle.gb_meaning.specs.Footprints.{is_global}
+use Rattle.gb_meaning.specs.Programs.{AreOnce}
+use Rattle.gb_meaning.specs.Settings.{Interpretation, types_of, setting}
+use Rattle.gb_meaning.proofs.SettingTypes.{setting-types}
 use Rattle.gb_laws.specs.Finite.{AreVariables, IsInhabited}
 use Rattle.gb_typing.specs.Chosen.{IsFittingWorld}
 

@@ -6,7 +6,7 @@ use Rattle.gb_terms.specs.declared.module.Mexp.TheBlock as B
 use Rattle.gb_terms.specs.declared.module.Mexp.TheVariants.{Name as named, Apply, Apply'}
 use Rattle.gb_terms.specs.declared.module.ProcRef.{ProcRef}
 use Rattle.gb_meaning.specs.Names.{Name}
-use Rattle.gb_holds.specs.Modules.{Procedures, Functor, Applied, Modules, found, closed, module_at, modules_at, procedure_at}
+use Rattle.gb_meaning.specs.Modules.{Procedures, Functor, Applied, Modules, found, closed, module_at, modules_at, procedure_at}
 use Rattle.gb_typing.specs.Modules.{ProcedureType, FunctorType, Interface, fits, left_over, lacking, given, interface_at, interfaces_at, of_complete, procedure_of, procedure_type}
 use Rattle.gb_typing.specs.Modules as typed
 use Rattle.gb_typing.proofs.ExpressionsAlike.{AppliedIf, applied_fitting}

@@ -10,12 +10,12 @@ use Rattle.gb_meaning.specs.Program.{Routine}
 use Rattle.gb_meaning.specs.Program.Routine.{routine}
 use Rattle.gb_meaning.specs.Setting.{Setting, Meaning}
 use Rattle.gb_meaning.specs.Terms.{val, quiet}
-use Rattle.gb_holds.specs.Declared.{Declarations, Declaration, abstract_type, abbreviation, operator, abstract_operator, module_type, concrete_module, abstract_module, axiom_of, lemma, terminating}
-use Rattle.gb_holds.specs.Modules.{Reading}
-use Rattle.gb_holds.specs.Linking.{calling, linked_procedure}
-use Rattle.gb_holds.specs.Settings.{Table, at_arguments, with_declaration, with_operators}
-use Rattle.gb_holds.specs.Naming.{EachCall, EachCallIn, EachCallOf}
-use Rattle.gb_holds.proofs.Later.{same_body}
+use Rattle.gb_meaning.specs.Declared.{Declarations, Declaration, abstract_type, abbreviation, operator, abstract_operator, module_type, concrete_module, abstract_module, axiom_of, lemma, terminating}
+use Rattle.gb_meaning.specs.Modules.{Reading}
+use Rattle.gb_meaning.specs.Linking.{calling, linked_procedure}
+use Rattle.gb_meaning.specs.Settings.{Table, at_arguments, with_declaration, with_operators}
+use Rattle.gb_meaning.specs.Naming.{EachCall, EachCallIn, EachCallOf}
+use Rattle.gb_meaning.proofs.Later.{same_body}
 use Rattle.gb_typing.specs.Naming.{AgreeOn, OperatorNames, OperatorsName}
 use Rattle.gb_typing.proofs.SameTerms.{term_same, denominator_same}
 use Rattle.gb_typing.proofs.Agreeing.{term_agrees}

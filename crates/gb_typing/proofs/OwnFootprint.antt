@@ -12,14 +12,14 @@ use Rattle.gb_terms.specs.declared.module.Mexp.TheVariants.{Name as named}
 use Rattle.gb_meaning.specs.Names.{Name}
 use Rattle.gb_meaning.specs.Program.{Oracle}
 use Rattle.gb_meaning.specs.Values.{Global, Types}
-use Rattle.gb_holds.specs.Adversary.{abstract_footprint, oracle_footprints, oracles_called, signature_footprints, type_named}
-use Rattle.gb_holds.specs.Declared.{Declarations, ModuleType, Signature}
-use Rattle.gb_holds.specs.Footprints.{footprint, footprint_read, in_order, inserted, is_global, of_all, of_callee, placed, stands_for, var_order}
-use Rattle.gb_holds.specs.Linking.{oracle_of}
-use Rattle.gb_holds.specs.Modules.{modules_of, no_module}
-use Rattle.gb_holds.specs.Programs.{AreInOrder}
-use Rattle.gb_holds.specs.Settings.{Chosen, Interpretation, footprints, is_chosen, program_footprint, setting, with_abstract_footprints}
-use Rattle.gb_holds.proofs.SettingTypes.{setting-types}
+use Rattle.gb_meaning.specs.Adversary.{abstract_footprint, oracle_footprints, oracles_called, signature_footprints, type_named}
+use Rattle.gb_meaning.specs.Declared.{Declarations, ModuleType, Signature}
+use Rattle.gb_meaning.specs.Footprints.{footprint, footprint_read, in_order, inserted, is_global, of_all, of_callee, placed, stands_for, var_order}
+use Rattle.gb_meaning.specs.Linking.{oracle_of}
+use Rattle.gb_meaning.specs.Modules.{modules_of, no_module}
+use Rattle.gb_meaning.specs.Programs.{AreInOrder}
+use Rattle.gb_meaning.specs.Settings.{Chosen, Interpretation, footprints, is_chosen, program_footprint, setting, with_abstract_footprints}
+use Rattle.gb_meaning.proofs.SettingTypes.{setting-types}
 use Rattle.gb_typing.specs.Chosen.{chosen_under}
 use Rattle.gb_typing.proofs.ClosedSettings.{chosen_footprint}
 

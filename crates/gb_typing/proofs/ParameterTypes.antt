@@ -7,7 +7,7 @@ use Rattle.gb_goal.specs.Interfaces.{of_type, params_in, signature_types, signat
 use Rattle.gb_goal.specs.declared.scope.Entry.{Entry}
 use Rattle.gb_goal.specs.declared.scope.Entry.TheVariants as entry
 use Rattle.gb_meaning.specs.Names.{Name}
-use Rattle.gb_holds.specs.Declared.{Declarations, ModuleType, declaration_of, declared}
+use Rattle.gb_meaning.specs.Declared.{Declarations, ModuleType, declaration_of, declared}
 use Rattle.gb_typing.specs.Context.{Context}
 use Rattle.gb_typing.specs.Formulas.{IsKnown}
 use Rattle.gb_typing.specs.Modules.{Modules, functor_type, of_functor_type, without_lacks}

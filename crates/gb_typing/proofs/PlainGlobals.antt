@@ -4,10 +4,10 @@ use Rattle.gb_core.specs.declared.ty.Ty.{Ty}
 use Rattle.gb_types.specs.Numbering.{numbers}
 use Rattle.gb_terms.specs.declared.module.Mexp.TheVariants.{Name as named}
 use Rattle.gb_meaning.specs.Values.{Global, World, Types, values_by, footprint_values}
-use Rattle.gb_holds.specs.Typing.{IsPlain}
-use Rattle.gb_holds.specs.Holds.{HaveVariableTypes}
-use Rattle.gb_holds.specs.Globs.{IsGlobless}
-use Rattle.gb_holds.proofs.PlainTypes.{plain_glob}
+use Rattle.gb_meaning.specs.Typing.{IsPlain}
+use Rattle.gb_meaning.specs.Holds.{HaveVariableTypes}
+use Rattle.gb_meaning.specs.Globs.{IsGlobless}
+use Rattle.gb_meaning.proofs.PlainTypes.{plain_glob}
 use Rattle.gb_typing.specs.Agreement.{SameValues, SameGlobals}
 use Rattle.gb_typing.proofs.Agreeing.{values_named}
 

@@ -19,13 +19,13 @@ use Rattle.gb_meaning.specs.Values.{Global, World, Types, has}
 use Rattle.gb_meaning.specs.Runs.{valued}
 use Rattle.gb_meaning.specs.Terms.{quiet, val}
 use Rattle.gb_meaning.specs.Written.{type_of as written_type, params_of}
-use Rattle.gb_holds.specs.Declared.{Declarations, ModuleType, Signature, signature_in}
-use Rattle.gb_holds.specs.Modules.{Procedures, found}
-use Rattle.gb_holds.specs.Linking.{Oracles, link, link_routine, answered, oracle_of}
-use Rattle.gb_holds.specs.Typing.{Names, type_of, IsValueOf, IsDistributionOver, IsTyped, IsTypedRoutine}
-use Rattle.gb_holds.specs.Adversary.{Adversary, type_named, may_call, oracle_signature, callable, each_linked, with_oracles}
-use Rattle.gb_holds.specs.Programs.{IfThere, IsProcedureFor, HasProcedures, IsProgramFor, AreNamed}
-use Rattle.gb_holds.proofs.EachProgram.{found-each_linked}
+use Rattle.gb_meaning.specs.Declared.{Declarations, ModuleType, Signature, signature_in}
+use Rattle.gb_meaning.specs.Modules.{Procedures, found}
+use Rattle.gb_meaning.specs.Linking.{Oracles, link, link_routine, answered, oracle_of}
+use Rattle.gb_meaning.specs.Typing.{Names, type_of, IsValueOf, IsDistributionOver, IsTyped, IsTypedRoutine}
+use Rattle.gb_meaning.specs.Adversary.{Adversary, type_named, may_call, oracle_signature, callable, each_linked, with_oracles}
+use Rattle.gb_meaning.specs.Programs.{IfThere, IsProcedureFor, HasProcedures, IsProgramFor, AreNamed}
+use Rattle.gb_meaning.proofs.EachProgram.{found-each_linked}
 use Rattle.gb_typing.specs.Alike.{SameParams}
 use Rattle.gb_typing.specs.Modules.{ProcedureType, signature_types, signatures_of, functor_type, of_functor_type}
 use Rattle.gb_typing.specs.Fits.{IsOfType}

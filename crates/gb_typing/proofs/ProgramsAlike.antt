@@ -11,13 +11,13 @@ use Rattle.gb_meaning.specs.Program.Program.{done, assign, sample, branch, loop,
 use Rattle.gb_meaning.specs.Program.Routine.{routine}
 use Rattle.gb_meaning.specs.Setting.{Setting}
 use Rattle.gb_meaning.specs.Values.{Global, World}
-use Rattle.gb_holds.specs.Adversary.{Adversary, type_named, may_call, oracle_signature, callable, each_linked, with_oracles}
-use Rattle.gb_holds.specs.Declared.{Declarations, ModuleType, Signature, signature_in}
-use Rattle.gb_holds.specs.Linking.{Oracles, link, link_routine, answered, oracle_of}
-use Rattle.gb_holds.specs.Modules.{Procedures, found}
-use Rattle.gb_holds.specs.Programs.{IsProcedureFor, HasProcedures, IsProgramFor}
-use Rattle.gb_holds.specs.Typing.{Names, IsTyped, IsTypedRoutine}
-use Rattle.gb_holds.proofs.EachProgram.{found-each_linked}
+use Rattle.gb_meaning.specs.Adversary.{Adversary, type_named, may_call, oracle_signature, callable, each_linked, with_oracles}
+use Rattle.gb_meaning.specs.Declared.{Declarations, ModuleType, Signature, signature_in}
+use Rattle.gb_meaning.specs.Linking.{Oracles, link, link_routine, answered, oracle_of}
+use Rattle.gb_meaning.specs.Modules.{Procedures, found}
+use Rattle.gb_meaning.specs.Programs.{IsProcedureFor, HasProcedures, IsProgramFor}
+use Rattle.gb_meaning.specs.Typing.{Names, IsTyped, IsTypedRoutine}
+use Rattle.gb_meaning.proofs.EachProgram.{found-each_linked}
 use Rattle.gb_typing.specs.Modules.{ProcedureType, signature_types, signatures_of, functor_type, of_functor_type}
 use Rattle.gb_typing.proofs.Programs.{found_type}
 use Rattle.gb_typing.specs.Alike.{Agree, AreAgreeing, StandAlike, SameParams}

@@ -7,7 +7,7 @@ use Rattle.gb_terms.specs.declared.decl.TypedName.{TypedName}
 use Rattle.gb_terms.specs.declared.module.Mexp.{Mexp, Row_of-Mexp, end_of-Mexp, more_of-Mexp}
 use Rattle.gb_terms.specs.declared.module.Mexp.TheVariants.{Name as named, Apply'}
 use Rattle.gb_terms.specs.declared.module.ProcRef.{ProcRef}
-use Rattle.gb_coupling.specs.WeightedList.{Every}
+use Rattle.gb_dist.specs.WeightedList.{Every}
 use Rattle.gb_meaning.specs.Names.{Name, Map}
 use Rattle.gb_meaning.specs.Program.{Routine}
 use Rattle.gb_meaning.specs.Runs.{outcomes}
@@ -15,8 +15,8 @@ use Rattle.gb_meaning.specs.Setting.{Setting}
 use Rattle.gb_meaning.specs.Sound.{IsSoundRoutine}
 use Rattle.gb_meaning.specs.Written.{params_of, result_type}
 use Rattle.gb_core.specs.declared.value.Value.{Value}
-use Rattle.gb_holds.specs.Modules.{Procedures, Functor, Applied, found, closed, module_at, modules_at, procedure_at}
-use Rattle.gb_holds.specs.Modules as linked
+use Rattle.gb_meaning.specs.Modules.{Procedures, Functor, Applied, found, closed, module_at, modules_at, procedure_at}
+use Rattle.gb_meaning.specs.Modules as linked
 use Rattle.gb_typing.specs.Modules.{ProcedureType, FunctorType, Interface, Modules, same_params, has_type, provides, is_complete, serve, fits, left_over, lacking, given, interface_at, interfaces_at, of_complete, procedure_of, procedure_type}
 use Rattle.gb_typing.specs.Fits.{HasResult, IsOfType}
 use mathlib.Core.Former.{Count}

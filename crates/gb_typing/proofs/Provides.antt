@@ -5,7 +5,7 @@ use Rattle.gb_core.proofs.SameTypes.{ty_eq-Decides}
 use Rattle.gb_core.specs.SameTypes.{ty_eq}
 use Rattle.gb_terms.specs.declared.decl.TypedName.{TypedName}
 use Rattle.gb_meaning.specs.Names.{Name}
-use Rattle.gb_holds.specs.Modules.{Procedures, found}
+use Rattle.gb_meaning.specs.Modules.{Procedures, found}
 use Rattle.gb_typing.specs.Modules.{ProcedureType, same_params, has_type, provides}
 use Rattle.gb_typing.proofs.Scripts.{none_some, same_some, same_name}
 

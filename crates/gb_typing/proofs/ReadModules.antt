@@ -9,8 +9,8 @@ use Rattle.gb_terms.specs.declared.decl.Param.{Param}
 use Rattle.gb_terms.specs.declared.decl.Proc.{Proc}
 use Rattle.gb_terms.specs.declared.decl.TypedName.{TypedName}
 use Rattle.gb_terms.specs.declared.term.Term.{Term}
-use Rattle.gb_coupling.specs.WeightedList.{WeightedList, Every}
-use Rattle.gb_coupling.proofs.Entries.{Every-dmap}
+use Rattle.gb_dist.specs.WeightedList.{WeightedList, Every}
+use Rattle.gb_dist.proofs.Entries.{Every-dmap}
 use Rattle.gb_meaning.proofs.Maps.{get-set_same}
 use Rattle.gb_meaning.specs.Commands.{statements}
 use Rattle.gb_meaning.specs.Memory.{Memory, result_name, value_or, outcome}
@@ -23,9 +23,9 @@ use Rattle.gb_meaning.specs.State.{closed, inside}
 use Rattle.gb_meaning.specs.Terms.{quiet}
 use Rattle.gb_meaning.specs.Values.{has}
 use Rattle.gb_meaning.specs.Written.{type_of}
-use Rattle.gb_holds.specs.Linking.{calling, linked_procedure}
-use Rattle.gb_holds.specs.Modules.{Procedures, Functor, Applied, found, no_module, with_module, argument, with_params, procedure_at, with_procedure, with_procedures, module_read}
-use Rattle.gb_holds.specs.Modules as linked
+use Rattle.gb_meaning.specs.Linking.{calling, linked_procedure}
+use Rattle.gb_meaning.specs.Modules.{Procedures, Functor, Applied, found, no_module, with_module, argument, with_params, procedure_at, with_procedure, with_procedures, module_read}
+use Rattle.gb_meaning.specs.Modules as linked
 use Rattle.gb_laws.specs.Context as typed
 use Rattle.gb_laws.specs.Finite.{IsFinite}
 use Rattle.gb_laws.proofs.Sizes.{widened}

@@ -7,9 +7,9 @@ use Rattle.gb_terms.specs.declared.decl.Module.{Module}
 use Rattle.gb_terms.specs.declared.decl.Param.{Param}
 use Rattle.gb_terms.specs.declared.decl.Proc.{Proc}
 use Rattle.gb_meaning.specs.Names.{Name}
-use Rattle.gb_holds.specs.Modules.{Procedures, Functor, Applied, Reading, found, no_module, with_module, argument, with_params, procedure_at, with_procedure, with_procedures, module_read}
-use Rattle.gb_holds.specs.Modules as linked
-use Rattle.gb_holds.proofs.Procedures.{in_parts, stays, known}
+use Rattle.gb_meaning.specs.Modules.{Procedures, Functor, Applied, Reading, found, no_module, with_module, argument, with_params, procedure_at, with_procedure, with_procedures, module_read}
+use Rattle.gb_meaning.specs.Modules as linked
+use Rattle.gb_meaning.proofs.Procedures.{in_parts, stays, known}
 use Rattle.gb_typing.specs.Modules.{ProcedureType, FunctorType, Interface, Modules, functor_type, of_functor_type, without_lacks, with_interface}
 use Rattle.gb_typing.specs.Context.{Context}
 use Rattle.gb_typing.specs.Programs.{IsProcedure, locals_of, type_of_procedure}

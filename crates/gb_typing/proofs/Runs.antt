@@ -5,9 +5,9 @@ use Rattle.gb_core.specs.declared.var.Var.{Var}
 use Rattle.gb_terms.specs.declared.term.Term.{Term}
 use Rattle.gb_terms.specs.declared.term.Instr.{Instr}
 use Rattle.gb_terms.specs.declared.term.Head.TheVariants.{Assign, Sample, Call', If', While'}
-use Rattle.gb_coupling.specs.WeightedList.{bind}
-use Rattle.gb_coupling.specs.Coupling.{Coupling}
-use Rattle.gb_coupling.proofs.Sequence.{coupling_sequence}
+use Rattle.gb_dist.specs.WeightedList.{bind}
+use Rattle.gb_dist.specs.Coupling.{Coupling}
+use Rattle.gb_dist.proofs.Sequence.{coupling_sequence}
 use Rattle.gb_meaning.specs.Memory.{Memory}
 use Rattle.gb_meaning.specs.Program.{Program, Routine, followed_by}
 use Rattle.gb_meaning.specs.Setting.{Setting}

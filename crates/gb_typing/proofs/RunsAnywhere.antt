@@ -3,7 +3,7 @@ use Rattle.std.proofs.Common.{◌≡◌, ◌^◌, ◌-◌, min, Bool, if◌then�
 use Rattle.std.proofs.Math.Path.{fun_ext}
 use Rattle.std.specs.List.{AllByRecursion}
 use Rattle.gb_core.specs.declared.var.Var.{Var}
-use Rattle.gb_coupling.specs.WeightedList.{WeightedList, bind, dmap, scale}
+use Rattle.gb_dist.specs.WeightedList.{WeightedList, bind, dmap, scale}
 use Rattle.gb_terms.specs.declared.decl.TypedName.{TypedName}
 use Rattle.gb_terms.specs.declared.term.Term.{Term}
 use Rattle.gb_terms.specs.declared.term.Instr.{Instr, Row_of-Instr, end_of-Instr, more_of-Instr}

@@ -10,8 +10,8 @@ use Rattle.gb_terms.specs.declared.term.Head.TheVariants as head
 use Rattle.gb_terms.specs.declared.term.Head.TheVariants.{Proc, Body', Assign, Sample, Call', If', While'}
 use Rattle.gb_terms.specs.declared.term.Instr.{Row_of-Instr, end_of-Instr, more_of-Instr}
 use Rattle.gb_terms.specs.declared.term.Subject.{Subject}
-use Rattle.gb_coupling.specs.WeightedList.{WeightedList, Every, IsPositive, total}
-use Rattle.gb_coupling.specs.Coupling.{Coupling}
+use Rattle.gb_dist.specs.WeightedList.{WeightedList, Every, IsPositive, total}
+use Rattle.gb_dist.specs.Coupling.{Coupling}
 use Rattle.gb_meaning.specs.Fractions.{Fraction}
 use Rattle.gb_meaning.specs.Memory.{Memory}
 use Rattle.gb_meaning.specs.Program.{Program, Routine}
@@ -28,8 +28,8 @@ use Rattle.gb_meaning.specs.Judgments.{Judge, IsFair, speaking, outcomes_of, out
 use Rattle.gb_meaning.proofs.Bools.{same_truth}
 use Rattle.gb_laws.proofs.Exact.{trying}
 use Rattle.gb_laws.proofs.Fair.{is_fair}
-use Rattle.gb_holds.specs.Naming.{EachCallIn}
-use Rattle.gb_holds.proofs.Later.{same_row}
+use Rattle.gb_meaning.specs.Naming.{EachCallIn}
+use Rattle.gb_meaning.proofs.Later.{same_row}
 use Rattle.gb_typing.specs.Agreement.{SameTerm, SameTerms, SameProgram, SameRoutine, SameIfThere, SameProcedure, SameSubject, SameJudged, SameForm, SameForms}
 use Rattle.gb_typing.proofs.SameTerms.{denominator_same, SaysSame, head_same, part_same}
 use Rattle.gb_typing.proofs.SamePrograms.{distribution_same, size_same, routine_size_same, run_same, outcomes_same, parameters_same}

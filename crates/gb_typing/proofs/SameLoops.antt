@@ -2,7 +2,7 @@
 use Rattle.std.proofs.Common.{◌≡◌, ◌^◌, Bool, false, subst}
 use Rattle.std.proofs.Math.Path.{fun_ext}
 use Rattle.gb_terms.specs.declared.term.Term.{Term}
-use Rattle.gb_coupling.specs.WeightedList.{WeightedList, Every, SameDistribution}
+use Rattle.gb_dist.specs.WeightedList.{WeightedList, Every, SameDistribution}
 use Rattle.gb_meaning.specs.Memory.{Memory}
 use Rattle.gb_meaning.specs.Program.{Program}
 use Rattle.gb_meaning.specs.Program.Program.{done, assign, sample, branch, loop, call, ask}
@@ -10,7 +10,7 @@ use Rattle.gb_meaning.specs.Setting.{Setting}
 use Rattle.gb_meaning.specs.State.{State, closed}
 use Rattle.gb_meaning.specs.Runs.{is_true, turns, out}
 use Rattle.gb_meaning.specs.Loops.{GoodFrom, IsGood}
-use Rattle.gb_holds.specs.Holds.{LoopsAreGood}
+use Rattle.gb_meaning.specs.Holds.{LoopsAreGood}
 use Rattle.gb_typing.specs.Agreement.{SameTerm, SameProgram}
 use Rattle.gb_typing.proofs.SamePrograms.{guard_same, size_same, run_same}
 

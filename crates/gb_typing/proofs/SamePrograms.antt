@@ -7,7 +7,7 @@ use Rattle.gb_core.specs.declared.var.Var.TheVariants as var
 use Rattle.gb_types.specs.Numbering.{parts_of}
 use Rattle.gb_terms.specs.declared.decl.TypedName.{TypedName}
 use Rattle.gb_terms.specs.declared.term.Term.{Term}
-use Rattle.gb_coupling.specs.WeightedList.{WeightedList, bind, dmap, scale}
+use Rattle.gb_dist.specs.WeightedList.{WeightedList, bind, dmap, scale}
 use Rattle.gb_meaning.specs.Names.{Map, set, get}
 use Rattle.gb_meaning.specs.Values.{Types}
 use Rattle.gb_meaning.specs.Memory.{Memory, assigned, write, write_each, write_globals, first_values, arguments, outcome, result_in, read_local}

@@ -4,10 +4,10 @@ use Rattle.std.proofs.lemmas.Option.{none-some}
 use Rattle.gb_goal.specs.declared.scope.Entry.TheVariants as entry
 use Rattle.gb_goal.specs.Scope as scope
 use Rattle.gb_meaning.specs.Names.{Name}
-use Rattle.gb_holds.specs.Declared.{Declarations, Declaration, declared, abstract_type, abbreviation, operator, abstract_operator, module_type, concrete_module, abstract_module, axiom_of, lemma, terminating}
-use Rattle.gb_holds.specs.Holds.{declared_modules}
-use Rattle.gb_holds.specs.Modules.{Applied, Reading, with_module, module_read, modules_of}
-use Rattle.gb_holds.specs.Modules as linked
+use Rattle.gb_meaning.specs.Declared.{Declarations, Declaration, declared, abstract_type, abbreviation, operator, abstract_operator, module_type, concrete_module, abstract_module, axiom_of, lemma, terminating}
+use Rattle.gb_meaning.specs.Holds.{declared_modules}
+use Rattle.gb_meaning.specs.Modules.{Applied, Reading, with_module, module_read, modules_of}
+use Rattle.gb_meaning.specs.Modules as linked
 use Rattle.gb_typing.specs.Modules.{Interface, functor_type, of_functor_type}
 use Rattle.gb_typing.specs.Context.{Context}
 use Rattle.gb_typing.specs.Scopes.{nothing, interface_with, procedure_types, with_declared, with_each, context_of, is_declared, AreTypedAfter, IsTypedScope}

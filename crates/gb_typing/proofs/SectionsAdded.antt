@@ -10,17 +10,17 @@ use Rattle.gb_terms.specs.declared.module.Mexp.TheVariants.{Name as named, Apply
 use Rattle.gb_meaning.specs.Names.{Name}
 use Rattle.gb_meaning.specs.Values.{Global, World}
 use Rattle.gb_meaning.specs.Setting.{Setting}
-use Rattle.gb_holds.specs.Declared.{Declarations, abstract_module, module_type_in}
-use Rattle.gb_holds.specs.Modules.{Modules, Reading, no_module, modules_of}
-use Rattle.gb_holds.specs.Linking.{linked_procedure}
-use Rattle.gb_holds.specs.Footprints.{in_order, of_all, var_order, own_entry, is_global, stands_for, footprint_globals, footprint_read, footprint}
-use Rattle.gb_holds.specs.Adversary.{type_named}
-use Rattle.gb_holds.specs.Settings.{Chosen, is_chosen, Table, Interpretation, interpreted, with_program, program_footprint, with_abstract_footprints, footprints, types_of, with_declaration, with_operators, with_abstract_programs, linked_modules}
-use Rattle.gb_holds.specs.Holds.{EachDeclared, EachProgram, declared_modules, interpretation}
-use Rattle.gb_holds.specs.Naming.{AnyName, EachName, IsFresh}
-use Rattle.gb_holds.proofs.Kept.{declared-then}
-use Rattle.gb_holds.proofs.Later.{same_module, declared_after}
-use Rattle.gb_holds.proofs.ModuleTypes.{types-after, any-chosen, programs_at, footprints_at}
+use Rattle.gb_meaning.specs.Declared.{Declarations, abstract_module, module_type_in}
+use Rattle.gb_meaning.specs.Modules.{Modules, Reading, no_module, modules_of}
+use Rattle.gb_meaning.specs.Linking.{linked_procedure}
+use Rattle.gb_meaning.specs.Footprints.{in_order, of_all, var_order, own_entry, is_global, stands_for, footprint_globals, footprint_read, footprint}
+use Rattle.gb_meaning.specs.Adversary.{type_named}
+use Rattle.gb_meaning.specs.Settings.{Chosen, is_chosen, Table, Interpretation, interpreted, with_program, program_footprint, with_abstract_footprints, footprints, types_of, with_declaration, with_operators, with_abstract_programs, linked_modules}
+use Rattle.gb_meaning.specs.Holds.{EachDeclared, EachProgram, declared_modules, interpretation}
+use Rattle.gb_meaning.specs.Naming.{AnyName, EachName, IsFresh}
+use Rattle.gb_meaning.proofs.Kept.{declared-then}
+use Rattle.gb_meaning.proofs.Later.{same_module, declared_after}
+use Rattle.gb_meaning.proofs.ModuleTypes.{types-after, any-chosen, programs_at, footprints_at}
 use Rattle.gb_typing.specs.Agreement.{SameFootprint}
 use Rattle.gb_typing.specs.Naming.{chosen_names, IsKept, VariablesName, OperatorsName}
 use Rattle.gb_typing.specs.Formed.{IsScopeApart}

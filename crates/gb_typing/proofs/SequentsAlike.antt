@@ -10,12 +10,12 @@ use Rattle.gb_meaning.specs.Names.{Name}
 use Rattle.gb_meaning.specs.Values.{World, Types}
 use Rattle.gb_meaning.specs.Memory.{Memory}
 use Rattle.gb_meaning.specs.State.{State}
-use Rattle.gb_holds.specs.Declared.{Declarations}
-use Rattle.gb_holds.specs.Truth.{Truth}
-use Rattle.gb_holds.specs.Settings.{Chosen, Table, Interpretation, interpreted, types_of, setting}
-use Rattle.gb_holds.specs.Holds.{EachProgram, AreValues, context, AreTrue, IsTrueSequent, InEachModel, Holds}
-use Rattle.gb_holds.specs.Naming.{AnyName}
-use Rattle.gb_holds.proofs.SettingTypes.{setting-types}
+use Rattle.gb_meaning.specs.Declared.{Declarations}
+use Rattle.gb_meaning.specs.Truth.{Truth}
+use Rattle.gb_meaning.specs.Settings.{Chosen, Table, Interpretation, interpreted, types_of, setting}
+use Rattle.gb_meaning.specs.Holds.{EachProgram, AreValues, context, AreTrue, IsTrueSequent, InEachModel, Holds}
+use Rattle.gb_meaning.specs.Naming.{AnyName}
+use Rattle.gb_meaning.proofs.SettingTypes.{setting-types}
 use Rattle.gb_typing.specs.Agreement.{SameLocals}
 use Rattle.gb_typing.specs.Naming.{chosen_names, IsKept, EachGlobOf}
 use Rattle.gb_typing.specs.Formed.{AreFormedBinds, AreHypsApart, SaysApart, IsSequentApart}

@@ -2,7 +2,7 @@
 use Rattle.std.proofs.Common.{◌≡◌, Bool, true, false, ◌&&◌, List, [], ◌∷◌, ◌++◌, map, Option, Some, None, if◌then◌else◌, refl, ap, sym, ◌∙◌, subst}
 use Rattle.std.proofs.lemmas.Bool.{false≢true, and_parts, and_from}
 use Rattle.gb_meaning.specs.Names.{Name}
-use Rattle.gb_holds.specs.Modules.{Procedures, found}
+use Rattle.gb_meaning.specs.Modules.{Procedures, found}
 use Rattle.gb_typing.specs.Modules.{ProcedureType, FunctorType, Interface, without_lacks, of_functor_type, has_type, provides, is_complete, serve, fits, left_over, lacking, given, of_complete, procedure_of}
 use Rattle.gb_typing.proofs.Scripts.{none_some, same_some}
 use Rattle.gb_typing.proofs.Provides.{HasAll, HasSame, has_same, provided, provides_on}

@@ -9,14 +9,14 @@ use Rattle.gb_terms.specs.declared.module.ProcRef.{ProcRef}
 use Rattle.gb_meaning.specs.Names.{Name}
 use Rattle.gb_meaning.specs.Program.{Routine}
 use Rattle.gb_meaning.specs.Setting.{Setting}
-use Rattle.gb_holds.specs.Declared.{Declarations, Declaration, ModuleType, module_type_in, module_type_of, abstract_type, abbreviation, operator, abstract_operator, module_type, concrete_module, abstract_module, axiom_of, lemma, terminating}
-use Rattle.gb_holds.specs.Adversary.{or_none, type_named, with_oracles}
-use Rattle.gb_holds.specs.Modules.{no_module, modules_of}
-use Rattle.gb_holds.specs.Modules as linked
-use Rattle.gb_holds.specs.Linking.{linked_procedure}
-use Rattle.gb_holds.specs.Settings.{Chosen, Interpretation, types_of, bare, with_operators, with_abstract_programs, linked_modules, setting}
-use Rattle.gb_holds.specs.Holds.{declared_modules}
-use Rattle.gb_holds.specs.Programs.{AreOnce, IsProgramFor, AreNamed}
+use Rattle.gb_meaning.specs.Declared.{Declarations, Declaration, ModuleType, module_type_in, module_type_of, abstract_type, abbreviation, operator, abstract_operator, module_type, concrete_module, abstract_module, axiom_of, lemma, terminating}
+use Rattle.gb_meaning.specs.Adversary.{or_none, type_named, with_oracles}
+use Rattle.gb_meaning.specs.Modules.{no_module, modules_of}
+use Rattle.gb_meaning.specs.Modules as linked
+use Rattle.gb_meaning.specs.Linking.{linked_procedure}
+use Rattle.gb_meaning.specs.Settings.{Chosen, Interpretation, types_of, bare, with_operators, with_abstract_programs, linked_modules, setting}
+use Rattle.gb_meaning.specs.Holds.{declared_modules}
+use Rattle.gb_meaning.specs.Programs.{AreOnce, IsProgramFor, AreNamed}
 use Rattle.gb_goal.specs.declared.sequent.Sequent.{Sequent}
 use Rattle.gb_terms.specs.declared.decl.TypedName.{TypedName}
 use Rattle.gb_laws.specs.Context as typed

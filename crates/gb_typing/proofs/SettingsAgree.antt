@@ -4,12 +4,12 @@ use Rattle.gb_terms.specs.declared.module.Mexp.{Mexp}
 use Rattle.gb_meaning.specs.Names.{Name}
 use Rattle.gb_meaning.specs.Values.{World}
 use Rattle.gb_meaning.specs.Setting.{Setting}
-use Rattle.gb_holds.specs.Declared.{Declarations}
-use Rattle.gb_holds.specs.Modules.{found}
-use Rattle.gb_holds.specs.Settings.{Chosen, Table, Interpretation, interpreted, types_of, bare, with_operators, linked_modules, setting}
-use Rattle.gb_holds.specs.Naming.{AnyName, EachName, IsFresh}
-use Rattle.gb_holds.proofs.Later.{same_module}
-use Rattle.gb_holds.proofs.SettingTypes.{setting-types}
+use Rattle.gb_meaning.specs.Declared.{Declarations}
+use Rattle.gb_meaning.specs.Modules.{found}
+use Rattle.gb_meaning.specs.Settings.{Chosen, Table, Interpretation, interpreted, types_of, bare, with_operators, linked_modules, setting}
+use Rattle.gb_meaning.specs.Naming.{AnyName, EachName, IsFresh}
+use Rattle.gb_meaning.proofs.Later.{same_module}
+use Rattle.gb_meaning.proofs.SettingTypes.{setting-types}
 use Rattle.gb_typing.specs.Agreement.{SameFootprint}
 use Rattle.gb_typing.specs.Naming.{AgreeOn, OperatorsName}
 use Rattle.gb_typing.proofs.KeptNames.{each-name}

@@ -13,10 +13,10 @@ use Rattle.gb_goal.specs.Interfaces.{suits}
 use Rattle.gb_goal.specs.Scope as scope
 use Rattle.gb_goal.specs.Scope.{as_module, entry_of, instance_at, module_of, proc_of, proc_if_plain, proc_in}
 use Rattle.gb_meaning.specs.Names.{Name}
-use Rattle.gb_holds.specs.Declared.{declared, concrete_module}
-use Rattle.gb_holds.specs.Modules.{Procedures}
-use Rattle.gb_holds.specs.Naming.{IsFreshAmong}
-use Rattle.gb_holds.proofs.Lists.{declared-append}
+use Rattle.gb_meaning.specs.Declared.{declared, concrete_module}
+use Rattle.gb_meaning.specs.Modules.{Procedures}
+use Rattle.gb_meaning.specs.Naming.{IsFreshAmong}
+use Rattle.gb_meaning.proofs.Lists.{declared-append}
 use Rattle.gb_typing.specs.Context.{Context}
 use Rattle.gb_typing.specs.Modules.{ProcedureType, with_interface}
 use Rattle.gb_typing.specs.Programs.{IsProcedure, type_of_procedure}

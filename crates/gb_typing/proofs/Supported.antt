@@ -16,11 +16,11 @@ use Rattle.gb_terms.specs.declared.term.Term.{Term}
 use Rattle.gb_terms.specs.declared.term.Head.TheVariants as head
 use Rattle.gb_terms.specs.declared.term.Head.TheVariants.{Sample}
 use Rattle.gb_walk.specs.declared.change.Change.TheVariants.{ToSide}
-use Rattle.gb_coupling.specs.WeightedList.{WeightedList, Every, IsPositive, mass, bit, indicator, weight_at, IsInSupport, dmap}
-use Rattle.gb_coupling.specs.WeightedList as weighted
-use Rattle.gb_coupling.proofs.Entries.{On_of_Every}
-use Rattle.gb_coupling.proofs.Indicators.{indicator_self, indicator_cases, support_in}
-use Rattle.gb_coupling.proofs.Monad.{bind-unit_right}
+use Rattle.gb_dist.specs.WeightedList.{WeightedList, Every, IsPositive, mass, bit, indicator, weight_at, IsInSupport, dmap}
+use Rattle.gb_dist.specs.WeightedList as weighted
+use Rattle.gb_dist.proofs.Entries.{On_of_Every}
+use Rattle.gb_dist.proofs.Indicators.{indicator_self, indicator_cases, support_in}
+use Rattle.gb_dist.proofs.Monad.{bind-unit_right}
 use Rattle.gb_meaning.specs.Values.{value_eq, has, Types}
 use Rattle.gb_meaning.specs.Fractions.{is_same}
 use Rattle.gb_meaning.specs.Memory.{Memory, write}

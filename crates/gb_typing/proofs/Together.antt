@@ -8,7 +8,7 @@ use Rattle.gb_goal.specs.declared.scope.Entry.{Entry}
 use Rattle.gb_goal.specs.declared.scope.Entry.TheVariants as entry
 use Rattle.gb_goal.specs.declared.sequent.Sequent.{Sequent}
 use Rattle.gb_meaning.specs.Names.{Name}
-use Rattle.gb_holds.specs.Declared.{Declarations, declaration_of, declared}
+use Rattle.gb_meaning.specs.Declared.{Declarations, declaration_of, declared}
 use Rattle.gb_typing.specs.Context.{Context}
 use Rattle.gb_typing.specs.Formulas.{with_module}
 use Rattle.gb_typing.specs.Scopes.{nothing, with_declared, with_each, context_of, IsDeclared, AreTypedAfter, IsTypedScope}

@@ -9,14 +9,14 @@ use Rattle.gb_terms.specs.declared.module.Bind.{Bind}
 use Rattle.gb_goal.specs.declared.module_type.Oracle.{Oracle as OracleName}
 use Rattle.gb_meaning.specs.Names.{Name}
 use Rattle.gb_meaning.specs.Program.{Oracle}
-use Rattle.gb_holds.specs.Adversary.{or_none, type_named, as_asked, oracle_signature, oracles_in, oracles_among, oracles_named, oracles_called, oracle_footprints, signature_footprints, abstract_footprint}
-use Rattle.gb_holds.specs.Declared.{Declarations, ModuleType, Signature, MayCall, every, those, signature_in, abstract_type, abbreviation, operator, abstract_operator, module_type, concrete_module, abstract_module, axiom_of, lemma, terminating}
-use Rattle.gb_holds.specs.Footprints.{of_callee, footprint_read}
-use Rattle.gb_holds.specs.Holds.{declared_modules}
-use Rattle.gb_holds.specs.Linking.{oracle_of}
-use Rattle.gb_holds.specs.Modules.{Procedures, found, no_module, modules_of}
-use Rattle.gb_holds.specs.Modules as linked
-use Rattle.gb_holds.specs.Settings.{Chosen, Interpretation, with_abstract_footprints, footprints, setting}
+use Rattle.gb_meaning.specs.Adversary.{or_none, type_named, as_asked, oracle_signature, oracles_in, oracles_among, oracles_named, oracles_called, oracle_footprints, signature_footprints, abstract_footprint}
+use Rattle.gb_meaning.specs.Declared.{Declarations, ModuleType, Signature, MayCall, every, those, signature_in, abstract_type, abbreviation, operator, abstract_operator, module_type, concrete_module, abstract_module, axiom_of, lemma, terminating}
+use Rattle.gb_meaning.specs.Footprints.{of_callee, footprint_read}
+use Rattle.gb_meaning.specs.Holds.{declared_modules}
+use Rattle.gb_meaning.specs.Linking.{oracle_of}
+use Rattle.gb_meaning.specs.Modules.{Procedures, found, no_module, modules_of}
+use Rattle.gb_meaning.specs.Modules as linked
+use Rattle.gb_meaning.specs.Settings.{Chosen, Interpretation, with_abstract_footprints, footprints, setting}
 use Rattle.gb_typing.specs.Chosen.{chosen_under, IsChosenIf, AreChosen, IsChosenOver}
 use Rattle.gb_typing.specs.Context.{Context}
 use Rattle.gb_typing.specs.Formulas.{IsKnown, oracle_in, with_module as with_bound}

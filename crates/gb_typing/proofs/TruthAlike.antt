@@ -14,15 +14,15 @@ use Rattle.gb_meaning.specs.Setting.Meaning.{finite}
 use Rattle.gb_meaning.specs.State.{State, under}
 use Rattle.gb_meaning.specs.State.Binding.{value, memory, program}
 use Rattle.gb_meaning.specs.Judgments.{IsTrueIn}
-use Rattle.gb_holds.specs.Declared.{Declarations, ModuleType}
-use Rattle.gb_holds.specs.Adversary.{Adversary, type_named}
-use Rattle.gb_holds.specs.Settings.{Chosen, is_chosen, Table, Interpretation, interpreted, setting}
-use Rattle.gb_holds.specs.Naming.{AnyName, IsFresh, EachParam, IsTypeIn}
-use Rattle.gb_holds.specs.Programs.{AreIn, IsProgramFor, AreNamed, AreFull}
-use Rattle.gb_holds.specs.Bounds.{IsBounded}
-use Rattle.gb_holds.specs.Within.{AreApart, own_globals, excluded, KeepsOff, IsWithinIn, IsWithin}
-use Rattle.gb_holds.specs.Truth.{Choice, last_has_module, IsFirstTrue, Truth, TruthOfLast}
-use Rattle.gb_holds.proofs.SameScope.{SameTypes, program-to, bounded-to}
+use Rattle.gb_meaning.specs.Declared.{Declarations, ModuleType}
+use Rattle.gb_meaning.specs.Adversary.{Adversary, type_named}
+use Rattle.gb_meaning.specs.Settings.{Chosen, is_chosen, Table, Interpretation, interpreted, setting}
+use Rattle.gb_meaning.specs.Naming.{AnyName, IsFresh, EachParam, IsTypeIn}
+use Rattle.gb_meaning.specs.Programs.{AreIn, IsProgramFor, AreNamed, AreFull}
+use Rattle.gb_meaning.specs.Bounds.{IsBounded}
+use Rattle.gb_meaning.specs.Within.{AreApart, own_globals, excluded, KeepsOff, IsWithinIn, IsWithin}
+use Rattle.gb_meaning.specs.Truth.{Choice, last_has_module, IsFirstTrue, Truth, TruthOfLast}
+use Rattle.gb_meaning.proofs.SameScope.{SameTypes, program-to, bounded-to}
 use Rattle.gb_typing.specs.Naming.{chosen_names, IsKept}
 use Rattle.gb_typing.specs.Formed.{AreSignedBounds, AreKept, IsFormedBind, IsSaidApart, IsFirstApart, IsApartFormula, IsLastApart}
 use Rattle.gb_typing.proofs.SameForms.{truth_same}

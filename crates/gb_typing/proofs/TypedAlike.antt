@@ -9,7 +9,7 @@ use Rattle.gb_terms.specs.declared.decl.TypedName.{TypedName}
 use Rattle.gb_terms.specs.declared.module.Mexp.{Mexp}
 use Rattle.gb_terms.specs.declared.module.Mexp.TheVariants.{Name as named, Apply'}
 use Rattle.gb_terms.specs.declared.term.Term.{Term, Term', end_of-Head, more_of-Head}
-use Rattle.gb_coupling.specs.WeightedList.{Every}
+use Rattle.gb_dist.specs.WeightedList.{Every}
 use Rattle.gb_meaning.specs.Names.{Name}
 use Rattle.gb_meaning.specs.Values.{Global, has}
 use Rattle.gb_meaning.specs.Program.{Program, Routine, Oracle}
@@ -18,11 +18,11 @@ use Rattle.gb_meaning.specs.Program.Routine.{routine}
 use Rattle.gb_meaning.specs.Setting.{Setting, Meaning}
 use Rattle.gb_meaning.specs.Setting.Meaning.{finite, whole, fraction, weights}
 use Rattle.gb_meaning.specs.Terms.{val, quiet, distribution}
-use Rattle.gb_holds.specs.Declared.{Signature}
-use Rattle.gb_holds.specs.Globs.{IsGlobless}
-use Rattle.gb_holds.specs.Typing.{Names, global_type, type_of, IsExpression, IsValueOf, IsTypedTerm, IsDistributionOver, AreArguments, AreLocals, FitsSignature, IsTyped, IsTypedRoutine}
+use Rattle.gb_meaning.specs.Declared.{Signature}
+use Rattle.gb_meaning.specs.Globs.{IsGlobless}
+use Rattle.gb_meaning.specs.Typing.{Names, global_type, type_of, IsExpression, IsValueOf, IsTypedTerm, IsDistributionOver, AreArguments, AreLocals, FitsSignature, IsTyped, IsTypedRoutine}
 use Rattle.gb_meaning.specs.Written.{local_type, type_of as written_type, params_of}
-use Rattle.gb_holds.specs.Naming.{AnyName, EachName}
+use Rattle.gb_meaning.specs.Naming.{AnyName, EachName}
 use Rattle.gb_typing.specs.Agreement.{SameFootprint, SameValues, SameTerm, SameLocals}
 use Rattle.gb_typing.proofs.SameTerms.{term_same}
 use Rattle.gb_typing.proofs.SamePrograms.{distribution_same}

@@ -15,7 +15,7 @@ use Rattle.gb_meaning.specs.Commands.{terms_in}
 use Rattle.gb_meaning.specs.Written.{type_of}
 use Rattle.gb_meaning.proofs.Nodes.{term_is_node}
 use Rattle.gb_laws.proofs.Trees.{out_is}
-use Rattle.gb_holds.specs.Truth.{has_module, last_has_module, Choice}
+use Rattle.gb_meaning.specs.Truth.{has_module, last_has_module, Choice}
 use Rattle.gb_laws.specs.Typing.{types_of, IsHead}
 use Rattle.gb_laws.specs.Typing.Binder.{value, memory}
 use Rattle.gb_typing.specs.Context.{Context, erased, with_own, with_sides, within}

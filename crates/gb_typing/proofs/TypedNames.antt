@@ -18,13 +18,13 @@ use Rattle.gb_meaning.specs.Program.{Program, Routine, Oracle}
 use Rattle.gb_meaning.specs.Program.Program.{done, assign, sample, branch, loop, call, ask}
 use Rattle.gb_meaning.specs.Program.Routine.{routine}
 use Rattle.gb_meaning.specs.Setting.{Setting}
-use Rattle.gb_holds.specs.Declared.{Signature}
-use Rattle.gb_holds.specs.Globs.{EachGlob, EachGlobIn, IsGlobless}
-use Rattle.gb_holds.specs.Linking.{Oracles, link, link_routine, answered}
-use Rattle.gb_holds.specs.Typing.{Names, type_of, with_type, types_of, Takes, IsProgramHead, IsExpression, AreExpressions, IsDistributionOver, AreArguments, AreLocals, FitsSignature, IsTyped, IsTypedRoutine}
+use Rattle.gb_meaning.specs.Declared.{Signature}
+use Rattle.gb_meaning.specs.Globs.{EachGlob, EachGlobIn, IsGlobless}
+use Rattle.gb_meaning.specs.Linking.{Oracles, link, link_routine, answered}
+use Rattle.gb_meaning.specs.Typing.{Names, type_of, with_type, types_of, Takes, IsProgramHead, IsExpression, AreExpressions, IsDistributionOver, AreArguments, AreLocals, FitsSignature, IsTyped, IsTypedRoutine}
 use Rattle.gb_meaning.specs.Written.{params_of}
-use Rattle.gb_holds.proofs.PlainTypes.{plain_glob}
-use Rattle.gb_holds.specs.Naming.{AnyName}
+use Rattle.gb_meaning.proofs.PlainTypes.{plain_glob}
+use Rattle.gb_meaning.specs.Naming.{AnyName}
 use Rattle.gb_typing.specs.Naming.{EachGlobOf, VariableNames, VariablesName, HeadNames, TermNames, TermsName, EachTermNames, ProgramNames, RoutineNames, NamesIfThere}
 
 module _ (P : Name → Type 0) where

@@ -6,8 +6,8 @@ use Rattle.gb_core.specs.declared.ty.Ty.{Ty, Row_of-Ty, end_of-Ty, more_of-Ty}
 use Rattle.gb_core.specs.declared.ty.Ty.TheVariants as ty
 use Rattle.gb_meaning.specs.Values.{World, Types}
 use Rattle.gb_laws.specs.Finite.{AreFiniteWith, IsFinite, IsVariableType, AreVariables}
-use Rattle.gb_holds.specs.Typing.{IsPlain, ArePlain}
-use Rattle.gb_holds.specs.Holds.{HaveVariableTypes}
+use Rattle.gb_meaning.specs.Typing.{IsPlain, ArePlain}
+use Rattle.gb_meaning.specs.Holds.{HaveVariableTypes}
 
 mutual
   variable_type : (t : Ty) → IsPlain t → IsVariableType t

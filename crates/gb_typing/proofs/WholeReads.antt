@@ -6,11 +6,11 @@ use Rattle.gb_terms.specs.declared.module.ProcRef.{ProcRef}
 use Rattle.gb_goal.specs.Scope as scope
 use Rattle.gb_goal.specs.Scope.{module_of, proc_in}
 use Rattle.gb_meaning.specs.Names.{Name}
-use Rattle.gb_holds.specs.Declared.{Declarations, declared, concrete_module}
-use Rattle.gb_holds.specs.Modules.{Applied, Reading, found, no_module, procedure_at, with_module, with_params, with_procedures, module_read, modules_of}
-use Rattle.gb_holds.specs.Modules as linked
-use Rattle.gb_holds.specs.Naming.{IsFreshAmong}
-use Rattle.gb_holds.proofs.Procedures.{in_module}
+use Rattle.gb_meaning.specs.Declared.{Declarations, declared, concrete_module}
+use Rattle.gb_meaning.specs.Modules.{Applied, Reading, found, no_module, procedure_at, with_module, with_params, with_procedures, module_read, modules_of}
+use Rattle.gb_meaning.specs.Modules as linked
+use Rattle.gb_meaning.specs.Naming.{IsFreshAmong}
+use Rattle.gb_meaning.proofs.Procedures.{in_module}
 use Rattle.gb_typing.specs.Alike.{LooksAtCalls, StandAlike, AreAbstractAlike, AreAllAlike}
 use Rattle.gb_typing.specs.Context.{Context}
 use Rattle.gb_typing.specs.Modules.{Interface}

@@ -8,14 +8,14 @@ use Rattle.gb_meaning.specs.Program.{Routine}
 use Rattle.gb_meaning.specs.Names.{Name}
 use Rattle.gb_meaning.specs.Values.{World}
 use Rattle.gb_meaning.specs.Setting.{Setting}
-use Rattle.gb_holds.specs.Declared.{Declarations, abstract_type, abbreviation, operator, abstract_operator, module_type, concrete_module, abstract_module, axiom_of, lemma, terminating}
-use Rattle.gb_holds.specs.Modules.{Modules, Reading, no_module, modules_of}
-use Rattle.gb_holds.specs.Linking.{linked_procedure}
-use Rattle.gb_holds.specs.Footprints.{in_order, of_all, var_order, footprint_read, own_entry, stands_for, footprint, footprint_globals}
-use Rattle.gb_holds.specs.Settings.{Chosen, is_chosen, Table, Interpretation, interpreted, program_footprint, with_abstract_footprints, footprints, types_of, with_declaration, with_operators, with_abstract_programs, linked_modules, setting}
-use Rattle.gb_holds.specs.Naming.{AnyName, EachName, IsFresh}
-use Rattle.gb_holds.proofs.Later.{same_module, declared_after, fresh_same}
-use Rattle.gb_holds.proofs.ModuleTypes.{types-fresh, programs_at, footprints_at}
+use Rattle.gb_meaning.specs.Declared.{Declarations, abstract_type, abbreviation, operator, abstract_operator, module_type, concrete_module, abstract_module, axiom_of, lemma, terminating}
+use Rattle.gb_meaning.specs.Modules.{Modules, Reading, no_module, modules_of}
+use Rattle.gb_meaning.specs.Linking.{linked_procedure}
+use Rattle.gb_meaning.specs.Footprints.{in_order, of_all, var_order, footprint_read, own_entry, stands_for, footprint, footprint_globals}
+use Rattle.gb_meaning.specs.Settings.{Chosen, is_chosen, Table, Interpretation, interpreted, program_footprint, with_abstract_footprints, footprints, types_of, with_declaration, with_operators, with_abstract_programs, linked_modules, setting}
+use Rattle.gb_meaning.specs.Naming.{AnyName, EachName, IsFresh}
+use Rattle.gb_meaning.proofs.Later.{same_module, declared_after, fresh_same}
+use Rattle.gb_meaning.proofs.ModuleTypes.{types-fresh, programs_at, footprints_at}
 use Rattle.gb_typing.specs.Agreement.{SameFootprint}
 use Rattle.gb_typing.specs.Naming.{chosen_names, IsKept, AgreeOn, AreModulesOrStatements, OperatorsName}
 use Rattle.gb_typing.proofs.PlainGlobals.{EachPlain, plain_kept, plain-globals}

@@ -7,7 +7,7 @@ use Rattle.std.proofs.lemmas.Slice.Eq.{bytes_eq-Decides}
 use Rattle.gb_core.specs.declared.ty.Ty.{Ty}
 use Rattle.gb_terms.specs.declared.module.Bound.{Bound}
 use Rattle.gb_terms.specs.declared.term.Term.{Term}
-use Rattle.gb_coupling.specs.WeightedList.{total, Every}
+use Rattle.gb_dist.specs.WeightedList.{total, Every}
 use Rattle.gb_meaning.specs.Names.{Name}
 use Rattle.gb_meaning.specs.Values.{Global, World}
 use Rattle.gb_meaning.specs.Memory.{Memory}
@@ -16,16 +16,16 @@ use Rattle.gb_meaning.specs.Program.Program.{done, assign, sample, branch, loop,
 use Rattle.gb_meaning.specs.Program.Routine.{routine}
 use Rattle.gb_meaning.specs.Setting.{Setting}
 use Rattle.gb_meaning.specs.Sound.{IsFull, Full, FullRoutine}
-use Rattle.gb_holds.specs.Declared.{Declarations, ModuleType, Signature}
-use Rattle.gb_holds.specs.Modules.{found}
-use Rattle.gb_holds.specs.Linking.{Oracles, link_routine}
-use Rattle.gb_holds.specs.Typing.{Names, IsPlain, global_type, IsTyped, IsTypedRoutine}
-use Rattle.gb_holds.specs.Adversary.{Adversary, may_call, oracle_signature, callable}
-use Rattle.gb_holds.specs.Programs.{AreIn, IfThere, IsProcedureFor, HasProcedures, IsProgramFor, AreFull}
-use Rattle.gb_holds.specs.Bounds.{counted_if_there, IsAnswer, AreOracles, oracle_in, counted_run, EachCallsAtMost, GroupCall, IsEntry, without, Agree, IsGroupRun, IsBounded}
-use Rattle.gb_holds.proofs.Links.{link_routine-linked}
+use Rattle.gb_meaning.specs.Declared.{Declarations, ModuleType, Signature}
+use Rattle.gb_meaning.specs.Modules.{found}
+use Rattle.gb_meaning.specs.Linking.{Oracles, link_routine}
+use Rattle.gb_meaning.specs.Typing.{Names, IsPlain, global_type, IsTyped, IsTypedRoutine}
+use Rattle.gb_meaning.specs.Adversary.{Adversary, may_call, oracle_signature, callable}
+use Rattle.gb_meaning.specs.Programs.{AreIn, IfThere, IsProcedureFor, HasProcedures, IsProgramFor, AreFull}
+use Rattle.gb_meaning.specs.Bounds.{counted_if_there, IsAnswer, AreOracles, oracle_in, counted_run, EachCallsAtMost, GroupCall, IsEntry, without, Agree, IsGroupRun, IsBounded}
+use Rattle.gb_meaning.proofs.Links.{link_routine-linked}
 use Rattle.gb_typing.specs.Agreement.{SameTerm}
-use Rattle.gb_holds.specs.Naming.{AnyName}
+use Rattle.gb_meaning.specs.Naming.{AnyName}
 use Rattle.gb_typing.specs.Naming.{NoName, RoutineNames, NamesIfThere}
 use Rattle.gb_typing.specs.Formed.{IsSigned, AreSigned, AreSignedBounds}
 use Rattle.gb_typing.proofs.SameTerms.{denominator_same, globals_same}

@@ -8,11 +8,11 @@ use Rattle.gb_terms.specs.declared.module.Bind.{Bind}
 use Rattle.gb_goal.specs.Scope.{proc_of}
 use Rattle.gb_goal.specs.declared.sequent.Sequent.{Sequent}
 use Rattle.gb_meaning.specs.Names.{Name}
-use Rattle.gb_holds.specs.Declared.{Declarations, Declaration, operator, abstract_operator, module_type, concrete_module, abstract_module, module_named}
-use Rattle.gb_holds.specs.Footprints.{variables, body_touched}
-use Rattle.gb_holds.specs.Settings.{Interpretation, setting}
-use Rattle.gb_holds.specs.Naming.{AnyName, EachName, EachCallOf, IsFresh, IsTypeIn}
-use Rattle.gb_holds.specs.Holds.{InEachModel, EachArgument, declared_modules}
+use Rattle.gb_meaning.specs.Declared.{Declarations, Declaration, operator, abstract_operator, module_type, concrete_module, abstract_module, module_named}
+use Rattle.gb_meaning.specs.Footprints.{variables, body_touched}
+use Rattle.gb_meaning.specs.Settings.{Interpretation, setting}
+use Rattle.gb_meaning.specs.Naming.{AnyName, EachName, EachCallOf, IsFresh, IsTypeIn}
+use Rattle.gb_meaning.specs.Holds.{InEachModel, EachArgument, declared_modules}
 use Rattle.gb_typing.specs.Naming.{NoName, IsOther, IsAmong, VariablesName, BodyNames, OperatorsName}
 use Rattle.gb_typing.specs.Formed.{IsKeptIn, IsSequentApart, IsScopeApart}
 

@@ -21,7 +21,7 @@ use Rattle.gb_meaning.specs.Program.Program.{done, assign, sample, branch, loop,
 use Rattle.gb_meaning.specs.Program.Routine.{routine}
 use Rattle.gb_meaning.specs.Setting.{Setting}
 use Rattle.gb_meaning.specs.Commands.{program_of}
-use Rattle.gb_holds.specs.Naming.{EachCallIn}
+use Rattle.gb_meaning.specs.Naming.{EachCallIn}
 
 -- the type has the same values
 abbrev pub SameValues : Types → Types → Ty → Type 0

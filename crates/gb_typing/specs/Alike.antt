@@ -8,11 +8,11 @@ use Rattle.gb_terms.specs.declared.module.Mexp.TheVariants.{Name as named, Apply
 use Rattle.gb_terms.specs.declared.module.ProcRef.{ProcRef}
 use Rattle.gb_meaning.specs.Names.{Name}
 use Rattle.gb_meaning.specs.Program.{Oracle}
-use Rattle.gb_holds.specs.Declared.{Declarations, ModuleType, Signature, abstract_module}
-use Rattle.gb_holds.specs.Adversary.{type_named, oracle_signature, oracles_called}
-use Rattle.gb_holds.specs.Modules.{Procedures, Functor, Applied, Reading, found, modules_at}
-use Rattle.gb_holds.specs.Modules as linked
-use Rattle.gb_holds.specs.Naming.{EachCallOf}
+use Rattle.gb_meaning.specs.Declared.{Declarations, ModuleType, Signature, abstract_module}
+use Rattle.gb_meaning.specs.Adversary.{type_named, oracle_signature, oracles_called}
+use Rattle.gb_meaning.specs.Modules.{Procedures, Functor, Applied, Reading, found, modules_at}
+use Rattle.gb_meaning.specs.Modules as linked
+use Rattle.gb_meaning.specs.Naming.{EachCallOf}
 use Rattle.gb_typing.specs.Modules.{ProcedureType, FunctorType, Interface, Modules, signatures_of, functor_type, of_functor_type}
 use Rattle.gb_typing.specs.Context.{Context}
 use Rattle.gb_typing.specs.Formulas.{IsKnown}

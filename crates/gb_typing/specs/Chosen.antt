@@ -6,12 +6,12 @@ use Rattle.gb_meaning.specs.Setting.{Setting}
 use Rattle.gb_meaning.specs.Values.{Global, World}
 use Rattle.gb_laws.specs.Context as typed
 use Rattle.gb_laws.specs.Finite.{AreVariables}
-use Rattle.gb_holds.specs.Declared.{Declarations, ModuleType, concrete_module}
-use Rattle.gb_holds.specs.Adversary.{Adversary, type_named}
-use Rattle.gb_holds.specs.Holds.{declared_modules}
-use Rattle.gb_holds.specs.Programs.{AreOnce, IsProgramFor, AreNamed, AreFull}
-use Rattle.gb_holds.specs.Settings.{Chosen, Interpretation, program_footprint, setting}
-use Rattle.gb_holds.specs.Within.{AreApart, own_globals}
+use Rattle.gb_meaning.specs.Declared.{Declarations, ModuleType, concrete_module}
+use Rattle.gb_meaning.specs.Adversary.{Adversary, type_named}
+use Rattle.gb_meaning.specs.Holds.{declared_modules}
+use Rattle.gb_meaning.specs.Programs.{AreOnce, IsProgramFor, AreNamed, AreFull}
+use Rattle.gb_meaning.specs.Settings.{Chosen, Interpretation, program_footprint, setting}
+use Rattle.gb_meaning.specs.Within.{AreApart, own_globals}
 use Rattle.gb_typing.specs.Context.{Context, erased}
 use Rattle.gb_typing.specs.Scopes.{with_declared}
 

@@ -1,7 +1,7 @@
 -- Small scripts.
 use Rattle.std.specs.Prelude.{List, [], ◌∷◌, ◌++◌}
 use Rattle.gb_core.specs.declared.ty.Ty.TheVariants as ty
-use Rattle.gb_holds.specs.Declared.{Declarations}
+use Rattle.gb_meaning.specs.Declared.{Declarations}
 use Rattle.gb_terms.specs.declared.decl.Module.{Module}
 use Rattle.gb_terms.specs.declared.decl.Param.{Param}
 use Rattle.gb_terms.specs.declared.module.Bind.{Bind}
@@ -11,7 +11,7 @@ use Rattle.gb_terms.specs.declared.term.Head.TheVariants.{AllModule, Hoare, Proc
 use Rattle.gb_goal.specs.declared.sequent.Sequent.{Sequent}
 use Rattle.gb_meaning.specs.Names.{Name}
 use Rattle.gb_meaning.specs.Trees.{term}
-use Rattle.gb_holds.specs.Examples.{any_oracle, game_name, param_name, oracle_name, nothing_said, true_literal, keeper_name, oracle_and_adversary, keeper_and_game}
+use Rattle.gb_meaning.specs.HoldingExamples.{any_oracle, game_name, param_name, oracle_name, nothing_said, true_literal, keeper_name, oracle_and_adversary, keeper_and_game}
 use Rattle.gb_typing.specs.Modules.{ProcedureType}
 
 -- module types T and U, the module S, and the functor G, which takes a module of type T

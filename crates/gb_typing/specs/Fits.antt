@@ -1,7 +1,7 @@
 -- Settings and states that fit a context.
 use Rattle.std.specs.Prelude.{◌≡◌, true, List, Some}
 use Rattle.gb_core.specs.declared.value.Value.{Value}
-use Rattle.gb_coupling.specs.WeightedList.{Every}
+use Rattle.gb_dist.specs.WeightedList.{Every}
 use Rattle.gb_terms.specs.declared.module.Mexp.TheVariants.{Name as named}
 use Rattle.gb_terms.specs.declared.module.ProcRef.{ProcRef}
 use Rattle.gb_meaning.specs.Names.{Name, Map}
@@ -14,7 +14,7 @@ use Rattle.gb_meaning.specs.State.{State}
 use Rattle.gb_meaning.specs.Values.{has}
 use Rattle.gb_meaning.specs.Written.{params_of, result_type}
 use Rattle.gb_laws.specs.Context as typed
-use Rattle.gb_holds.specs.Programs.{AreOnce}
+use Rattle.gb_meaning.specs.Programs.{AreOnce}
 use Rattle.gb_typing.specs.Modules.{ProcedureType}
 use Rattle.gb_typing.specs.Context.{Context, procedure, erased}
 

@@ -4,7 +4,7 @@ use Rattle.gb_terms.specs.declared.decl.Proc.{Proc}
 use Rattle.gb_terms.specs.declared.module.Mexp.{Mexp}
 use Rattle.gb_terms.specs.declared.module.ProcRef.{ProcRef}
 use Rattle.gb_meaning.specs.Names.{Name}
-use Rattle.gb_holds.specs.Modules.{Reading}
+use Rattle.gb_meaning.specs.Modules.{Reading}
 use Rattle.gb_goal.specs.Instances.{put_in_reference, with_calls}
 
 -- a reading looks at what the procedures that are called mean, not at how they are named

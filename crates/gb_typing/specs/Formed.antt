@@ -11,14 +11,14 @@ use Rattle.gb_goal.specs.declared.sequent.Sequent.{Sequent}
 use Rattle.gb_meaning.specs.Names.{Name}
 use Rattle.gb_meaning.specs.Values.{World}
 use Rattle.gb_meaning.specs.Judgments.{IsSoundForm}
-use Rattle.gb_holds.specs.Declared.{Declarations, Signature, axiom_of}
-use Rattle.gb_holds.specs.Globs.{EachGlob}
-use Rattle.gb_holds.specs.Adversary.{Adversary, type_named}
-use Rattle.gb_holds.specs.Naming.{AnyName, IsFresh, IsTypeIn}
-use Rattle.gb_holds.specs.Settings.{Table, Interpretation, with_program, types_of, setting}
-use Rattle.gb_holds.specs.Within.{IsWithin}
-use Rattle.gb_holds.specs.Truth.{Choice, last_has_module}
-use Rattle.gb_holds.specs.Holds.{EachProgram, HaveVariableTypes, declared_modules, interpretation}
+use Rattle.gb_meaning.specs.Declared.{Declarations, Signature, axiom_of}
+use Rattle.gb_meaning.specs.Globs.{EachGlob}
+use Rattle.gb_meaning.specs.Adversary.{Adversary, type_named}
+use Rattle.gb_meaning.specs.Naming.{AnyName, IsFresh, IsTypeIn}
+use Rattle.gb_meaning.specs.Settings.{Table, Interpretation, with_program, types_of, setting}
+use Rattle.gb_meaning.specs.Within.{IsWithin}
+use Rattle.gb_meaning.specs.Truth.{Choice, last_has_module}
+use Rattle.gb_meaning.specs.Holds.{EachProgram, HaveVariableTypes, declared_modules, interpretation}
 use Rattle.gb_typing.specs.Naming.{chosen_names, IsKept, EachGlobOf, FormNames, OperatorsName}
 
 -- a signature has this name

@@ -13,8 +13,8 @@ use Rattle.gb_terms.specs.declared.term.Head.TheVariants as head
 use Rattle.gb_meaning.specs.Names.{Name}
 use Rattle.gb_laws.specs.Typing.{types_of, IsHead}
 use Rattle.gb_laws.specs.Typing.Binder.{value, memory, program}
-use Rattle.gb_holds.specs.Declared.{ModuleType, Signature, signature_in}
-use Rattle.gb_holds.specs.Truth.{last_has_module, Choice}
+use Rattle.gb_meaning.specs.Declared.{ModuleType, Signature, signature_in}
+use Rattle.gb_meaning.specs.Truth.{last_has_module, Choice}
 use Rattle.gb_typing.specs.Modules.{Modules, signatures_of, params_in, functor_type, of_functor_type, with_interface}
 use Rattle.gb_typing.specs.Context.{Context, erased, within}
 use Rattle.gb_typing.specs.Typing.{IsForm}

@@ -5,8 +5,8 @@ use Rattle.gb_terms.specs.declared.module.Mexp.TheVariants.{Name as named, Apply
 use Rattle.gb_terms.specs.declared.module.ProcRef.{ProcRef}
 use Rattle.gb_meaning.specs.Names.{Name}
 pub use Rattle.gb_goal.specs.Interfaces.{ProcedureType, signature_types, signatures_of, params_in, same_params, has_type, provides}
-use Rattle.gb_holds.specs.Declared.{ModuleType}
-use Rattle.gb_holds.specs.Modules.{Procedures, found}
+use Rattle.gb_meaning.specs.Declared.{ModuleType}
+use Rattle.gb_meaning.specs.Modules.{Procedures, found}
 
 -- A module type: the procedures of the modules that its parameters stand for, which lack none themselves, and its own procedures.
 pub record FunctorType : Type 0 where

@@ -20,11 +20,11 @@ use Rattle.gb_meaning.specs.Program.Program.{done, assign, sample, branch, loop,
 use Rattle.gb_meaning.specs.Program.Routine.{routine}
 use Rattle.gb_meaning.specs.Setting.{Setting}
 use Rattle.gb_meaning.specs.Commands.{program_of, statements}
-use Rattle.gb_holds.specs.Globs.{EachGlob}
-use Rattle.gb_holds.specs.Declared.{Declarations, Declaration, operator, abstract_operator, module_type, concrete_module, lemma, terminating}
-use Rattle.gb_holds.specs.Naming.{EachName, EachCallIn, EachCallOf, IsFresh}
-use Rattle.gb_holds.specs.Settings.{Chosen}
-use Rattle.gb_holds.specs.Holds.{EachDeclared}
+use Rattle.gb_meaning.specs.Globs.{EachGlob}
+use Rattle.gb_meaning.specs.Declared.{Declarations, Declaration, operator, abstract_operator, module_type, concrete_module, lemma, terminating}
+use Rattle.gb_meaning.specs.Naming.{EachName, EachCallIn, EachCallOf, IsFresh}
+use Rattle.gb_meaning.specs.Settings.{Chosen}
+use Rattle.gb_meaning.specs.Holds.{EachDeclared}
 use Rattle.gb_typing.specs.Agreement.{SameFootprint, SameOperator}
 
 -- no name

@@ -23,7 +23,7 @@ use Rattle.gb_laws.specs.Uses.{Uses}
 use Rattle.gb_laws.specs.Uses.Use.{read as read_of}
 use Rattle.gb_laws.specs.Written.{IsSide, Written}
 use Rattle.gb_laws.specs.Finite.{IsFinite}
-use Rattle.gb_holds.specs.Footprints.{stands_for}
+use Rattle.gb_meaning.specs.Footprints.{stands_for}
 use Rattle.gb_typing.specs.Context.{Frame, Context, frame_of, reframed}
 use Rattle.gb_typing.specs.Typing.{IsIn, IsTyped}
 

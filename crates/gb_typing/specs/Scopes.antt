@@ -16,9 +16,9 @@ use Rattle.gb_laws.specs.Finite.{IsVariableType}
 use Rattle.gb_laws.specs.Operators.{IsDistributionType}
 use Rattle.gb_laws.specs.Typing.{OperatorType, IsLiteral}
 use Rattle.gb_laws.specs.Typing.Binder.{value}
-use Rattle.gb_holds.specs.Declared.{Declarations, Declaration, Abbreviated, for_type, for_value, DefinedOperator, ModuleType, Signature, MayCall, every, those, signature_in, abstract_type, abbreviation, operator, abstract_operator, module_type, concrete_module, abstract_module, axiom_of, lemma, terminating}
-use Rattle.gb_holds.specs.Modules.{Procedures, found}
-use Rattle.gb_holds.specs.Naming.{AnyName}
+use Rattle.gb_meaning.specs.Declared.{Declarations, Declaration, Abbreviated, for_type, for_value, DefinedOperator, ModuleType, Signature, MayCall, every, those, signature_in, abstract_type, abbreviation, operator, abstract_operator, module_type, concrete_module, abstract_module, axiom_of, lemma, terminating}
+use Rattle.gb_meaning.specs.Modules.{Procedures, found}
+use Rattle.gb_meaning.specs.Naming.{AnyName}
 use Rattle.gb_typing.specs.Naming.{NoName, TermNames}
 use Rattle.gb_typing.specs.Modules.{ProcedureType, Interface, Modules, params_in, functor_type, of_functor_type, procedure_of, with_interface}
 use Rattle.gb_typing.specs.Context.{Context, no_module}

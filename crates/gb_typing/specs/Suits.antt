@@ -7,8 +7,8 @@ use Rattle.gb_terms.specs.declared.module.Mexp.{Mexp}
 use Rattle.gb_meaning.specs.Names.{Name}
 use Rattle.gb_meaning.specs.Written.{local_type}
 use Rattle.gb_laws.specs.Typing.{OperatorType}
-use Rattle.gb_holds.specs.Declared.{ModuleType}
-use Rattle.gb_holds.specs.Modules.{Procedures, found}
+use Rattle.gb_meaning.specs.Declared.{ModuleType}
+use Rattle.gb_meaning.specs.Modules.{Procedures, found}
 use Rattle.gb_typing.specs.Context.{Context}
 use Rattle.gb_typing.specs.Modules.{ProcedureType, FunctorType, Interface, Modules, functor_type, fits, interface_at}
 use Rattle.gb_typing.specs.Scopes.{interface_with}

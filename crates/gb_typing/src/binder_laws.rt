@@ -5,7 +5,7 @@ ghost use Rattle.gb_terms.specs.declared.module.Bind.{Bind};
 ghost use Rattle.gb_goal.specs.Binders.{binder_entries, with_declared_modules};
 ghost use Rattle.gb_goal.specs.declared.sequent.Sequent.{Sequent};
 ghost use Rattle.gb_goal.specs.Scope.{AreNew, Declarations};
-ghost use Rattle.gb_holds.specs.Declared.{declared};
+ghost use Rattle.gb_meaning.specs.Declared.{declared};
 ghost use Rattle.gb_typing.specs.Scopes.{context_of, IsTypedScope};
 ghost use Rattle.gb_typing.specs.Sequents.{AreBinders, with_modules, IsTypedSequent};
 

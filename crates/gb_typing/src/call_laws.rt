@@ -1,7 +1,7 @@
 //! Laws of procedures: where their bodies start, how they run, and what comes out of them.
 
 ghost use Rattle.std.specs.Prelude.{◌≡◌, [], ◌∷◌, Some};
-ghost use Rattle.gb_coupling.specs.WeightedList.{dmap};
+ghost use Rattle.gb_dist.specs.WeightedList.{dmap};
 ghost use Rattle.gb_terms.specs.declared.decl.Proc.{Proc};
 ghost use Rattle.gb_terms.specs.declared.module.ProcRef.{ProcRef};
 ghost use Rattle.gb_terms.specs.declared.op.Side.TheVariants.{Own, Left, Right};

@@ -8,7 +8,7 @@ ghost use Rattle.gb_meaning.specs.Setting.{Setting};
 ghost use Rattle.gb_meaning.specs.State.{State};
 ghost use Rattle.gb_meaning.specs.Judgments.{Judge, IsFair, den};
 ghost use Rattle.gb_meaning.specs.Written.{type_of};
-ghost use Rattle.gb_holds.specs.Truth.{has_module};
+ghost use Rattle.gb_meaning.specs.Truth.{has_module};
 ghost use Rattle.gb_typing.specs.Context.{Context};
 ghost use Rattle.gb_typing.specs.Sequents.{IsConclusion};
 ghost use Rattle.gb_typing.specs.Fits.{IsSettingOf};

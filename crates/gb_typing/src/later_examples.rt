@@ -1,9 +1,9 @@
 //! Examples.
 
 ghost use Rattle.std.specs.Prelude.{◌++◌, [], ◌∷◌};
-ghost use Rattle.gb_holds.specs.Declared.{abstract_module};
-ghost use Rattle.gb_holds.specs.Holds.{Holds};
-ghost use Rattle.gb_holds.specs.Examples.{any_oracle, oracle_and_adversary, nothing_said};
+ghost use Rattle.gb_meaning.specs.Declared.{abstract_module};
+ghost use Rattle.gb_meaning.specs.Holds.{Holds};
+ghost use Rattle.gb_meaning.specs.HoldingExamples.{any_oracle, oracle_and_adversary, nothing_said};
 ghost use Rattle.gb_typing.specs.Added.{AreAddedTo};
 
 /// A lemma on every program of a module type, `forall (A <: T), hoare [A.o : true ==> true]`, goes on to hold when an

@@ -3,8 +3,8 @@
 ghost use Rattle.std.specs.Prelude.{◌≡◌, ◌++◌, List};
 ghost use Rattle.gb_terms.specs.declared.module.Bind.{Bind};
 ghost use Rattle.gb_meaning.specs.Names.{Name};
-ghost use Rattle.gb_holds.specs.Declared.{Declarations, module_named};
-ghost use Rattle.gb_holds.specs.Naming.{IsFresh};
+ghost use Rattle.gb_meaning.specs.Declared.{Declarations, module_named};
+ghost use Rattle.gb_meaning.specs.Naming.{IsFresh};
 ghost use Rattle.gb_typing.specs.Naming.{IsKept};
 ghost use Rattle.gb_typing.specs.Added.{IsNewModule, IsClosedScope};
 

@@ -12,7 +12,7 @@ ghost use Rattle.gb_meaning.specs.Sound.{IsSound};
 ghost use Rattle.gb_meaning.specs.State.{State, inside};
 ghost use Rattle.gb_meaning.specs.Terms.{quiet, val};
 ghost use Rattle.gb_meaning.specs.Judgments.{IsSoundForm};
-ghost use Rattle.gb_holds.specs.Truth.{has_module};
+ghost use Rattle.gb_meaning.specs.Truth.{has_module};
 ghost use Rattle.gb_typing.specs.Context.{Context};
 ghost use Rattle.gb_typing.specs.Typing.{IsForm};
 ghost use Rattle.gb_typing.specs.Formulas.{IsFormula};

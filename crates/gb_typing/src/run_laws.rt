@@ -1,7 +1,7 @@
 //! Laws of runs that rules cite.
 
 ghost use Rattle.std.specs.Prelude.{◌≡◌, ℕ, ◌*◌, ◌<◌, Bool, if◌then◌else◌, List, ◌∷◌, ◌++◌};
-ghost use Rattle.gb_coupling.specs.WeightedList.{WeightedList, bind, scale};
+ghost use Rattle.gb_dist.specs.WeightedList.{WeightedList, bind, scale};
 ghost use Rattle.gb_terms.specs.declared.decl.TypedName.{TypedName};
 ghost use Rattle.gb_terms.specs.declared.op.Rel.{Rel};
 ghost use Rattle.gb_terms.specs.declared.term.Cmd.{Cmd};

@@ -2,8 +2,8 @@
 use Rattle.std.specs.Prelude.{ℕ, ◌≡◌, true, [], ◌∷◌, nat_le}
 use Rattle.std.proofs.Common.{refl}
 use Rattle.std.proofs.Math.Dec.{leb-zero}
-use Rattle.gb_grammar.specs.declared.table.Symbol.TheVariants.{Token, Part}
-use Rattle.gb_grammar.specs.Grammar.{Production, IsProduction}
+use Rattle.gb_script.specs.declared.table.Symbol.TheVariants.{Token, Part}
+use Rattle.gb_script.specs.Grammar.{Production, IsProduction}
 use Rattle.gb_language.specs.Language.{all_rows, all_symbols}
 use Rattle.gb_script.specs.declared.action.Action.TheVariants.{Pass, Make, Enclose, Spell, Graft, Extend, Many, Lead}
 use Rattle.gb_script.specs.declared.action.Mark.TheVariants as mark

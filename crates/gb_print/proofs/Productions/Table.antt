@@ -1,9 +1,9 @@
 -- Rows of the table as productions of the grammar of a stage.
 use Rattle.std.specs.Prelude.{ℕ, zero, suc, ◌≡◌, true, false, Bool, if◌then◌else◌, List, [], ◌∷◌, Option, Some, None, nat_le, slice_get}
 use Rattle.std.proofs.Common.{refl, ap, ◌∙◌}
-use Rattle.gb_grammar.specs.declared.table.Row.{Row}
-use Rattle.gb_grammar.specs.declared.table.Symbol.{Symbol}
-use Rattle.gb_grammar.specs.Grammar.{Grammar, Production, IsProduction, production_of, grammar_of}
+use Rattle.gb_script.specs.declared.table.Row.{Row}
+use Rattle.gb_script.specs.declared.table.Symbol.{Symbol}
+use Rattle.gb_script.specs.Grammar.{Grammar, Production, IsProduction, production_of, grammar_of}
 use Rattle.gb_language.specs.Language.{all_rows, all_symbols}
 use Rattle.gb_script.specs.declared.action.Rule.{Rule}
 

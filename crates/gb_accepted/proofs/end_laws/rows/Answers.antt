@@ -1,5 +1,5 @@
 use Rattle.gb_goal.specs.Goal.{goal_of}
-use Rattle.gb_holds.specs.Declared.{declared}
+use Rattle.gb_meaning.specs.Declared.{declared}
 use Rattle.gb_prog.specs.Ends.{Entered}
 use Rattle.gb_accepted.proofs.LiftedEnd.{row_ends}
 use Rattle.gb_accepted.proofs.end_laws.rows.Goals as goal

@@ -1,4 +1,4 @@
-use Rattle.gb_holds.specs.Declared.{declared}
+use Rattle.gb_meaning.specs.Declared.{declared}
 use Rattle.gb_inline.specs.Proved.{ProvedEnd}
 use Rattle.gb_accepted.proofs.LiftedEnd.{by_known_rule}
 use Rattle.gb_accepted.proofs.end_laws.with_proved_loops.Goals as goal

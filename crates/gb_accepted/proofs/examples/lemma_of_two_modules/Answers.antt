@@ -1,4 +1,4 @@
-use Rattle.gb_holds.proofs.TwoCoins.{coins_hold}
+use Rattle.gb_meaning.proofs.TwoCoins.{coins_hold}
 use Rattle.gb_accepted.proofs.examples.lemma_of_two_modules.Goals as goal
 
 pub returns : goal.returns

@@ -2,7 +2,7 @@ use Rattle.std.proofs.Common.{◌≡◌, Option, Some, ap, sym, ◌∙◌, subst
 use Rattle.std.specs.Option.{option_copied, option_map}
 use Rattle.gb_goal.specs.Answers.{Answers}
 use Rattle.gb_goal.specs.Rows.{each_concluding}
-use Rattle.gb_parts.specs.OneBody.{one_seen}
+use Rattle.gb_prog.specs.OneBody.{one_seen}
 use Rattle.gb_call.specs.Call.{Callee, callee_of, callee_seen, known_seen}
 use Rattle.gb_call.specs.LastCall.{call_seen}
 use Rattle.gb_call_both.specs.OneSide.{of_side_callee}

@@ -1,5 +1,5 @@
 use Rattle.std.proofs.Common.{ap, ◌*◌}
-use Rattle.gb_coupling.specs.WeightedList.{indicator}
+use Rattle.gb_dist.specs.WeightedList.{indicator}
 use Rattle.gb_dist.proofs.laws.gathering.Goals as goal
 
 pub returns-clause-same : goal.returns-clause-same

@@ -1,6 +1,6 @@
 use Rattle.std.proofs.Common.{◌≡◌, [], ◌∷◌, map, refl, ap}
 use Rattle.gb_core.specs.declared.value.Value.{Value}
-use Rattle.gb_coupling.specs.WeightedList.{WeightedList, dmap}
+use Rattle.gb_dist.specs.WeightedList.{WeightedList, dmap}
 use Rattle.gb_dist.specs.Lists.{imaged}
 use Rattle.gb_dist.specs.Places.{outcomes}
 use Rattle.gb_dist.proofs.laws.images.Goals as goal

@@ -1,6 +1,6 @@
 use Rattle.std.proofs.Common.{◌≡◌, List, sym, subst, ◌∙◌, ap, arith}
 use Rattle.gb_core.specs.declared.value.Value.{Value}
-use Rattle.gb_coupling.specs.WeightedList.{WeightedList, total}
+use Rattle.gb_dist.specs.WeightedList.{WeightedList, total}
 use Rattle.gb_dist.specs.declared.row.Row.{Row}
 use Rattle.gb_dist.specs.Lists.{imaged, is_positive}
 use Rattle.gb_dist.specs.Places.{ArePlaced, outcomes}

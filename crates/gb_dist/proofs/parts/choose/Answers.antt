@@ -1,5 +1,5 @@
 use Rattle.std.proofs.Common.{◌≡◌, ◌<◌, List, length, ap, arith, refl, ◌*◌}
-use Rattle.gb_coupling.specs.WeightedList.{scale}
+use Rattle.gb_dist.specs.WeightedList.{scale}
 use Rattle.gb_dist.specs.declared.row.Row.{Row}
 use Rattle.gb_dist.specs.Rows.{entries}
 use Rattle.gb_dist.proofs.Steps.{weight_within, positive_scale, total_scale, finished, scaled_bound}

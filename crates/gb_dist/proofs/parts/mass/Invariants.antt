@@ -1,5 +1,5 @@
 use Rattle.std.proofs.Common.{◌≡◌, ◌≤◌, ◌+◌, drop}
-use Rattle.gb_coupling.specs.WeightedList.{total}
+use Rattle.gb_dist.specs.WeightedList.{total}
 use Rattle.gb_dist.specs.Lists.{kept}
 use Rattle.gb_dist.specs.Rows.{entries, weight_of}
 use Rattle.gb_dist.proofs.parts.mass.Given as goal

@@ -1,6 +1,6 @@
 use Rattle.std.proofs.Common.{◌≡◌, ◌≤◌, ◌+◌, drop}
 use Rattle.gb_core.specs.declared.value.Value.{Value}
-use Rattle.gb_coupling.specs.WeightedList.{weight_at}
+use Rattle.gb_dist.specs.WeightedList.{weight_at}
 use Rattle.gb_dist.specs.Rows.{entries, weight_of}
 use Rattle.gb_dist.proofs.parts.weight.Given as goal
 

@@ -1,7 +1,7 @@
 use Rattle.std.proofs.Common.{◌≡◌, ℕ, ◌+◌, drop}
 use Rattle.std.specs.List.{All}
 use Rattle.gb_core.specs.declared.value.Value.{Value}
-use Rattle.gb_coupling.specs.WeightedList.{mass}
+use Rattle.gb_dist.specs.WeightedList.{mass}
 use Rattle.gb_dist.specs.Places.{placed_mass}
 use Rattle.gb_dist.specs.Rows.{entries}
 use Rattle.gb_dist.proofs.Gathering.{IsAt}

@@ -1,6 +1,6 @@
 use Rattle.std.proofs.Common.{◌≡◌, ℕ, ◌<◌, ◌≤◌, ◌+◌, ◌-◌, true, length, drop, get_or}
 use Rattle.gb_core.specs.declared.value.Value.{Value}
-use Rattle.gb_coupling.specs.WeightedList.{mass}
+use Rattle.gb_dist.specs.WeightedList.{mass}
 use Rattle.gb_dist.specs.declared.sort.Placed.{Placed}
 use Rattle.gb_dist.specs.Lists.{IsIncreasing}
 use Rattle.gb_dist.specs.Rows.{entries, are_positive}

@@ -9,7 +9,7 @@ use Rattle.gb_eval.specs.Findings.Comes.{found}
 use Rattle.gb_eval.specs.declared.env.Bound.TheVariants as to
 use Rattle.gb_types.specs.Numbering.{parts_of}
 use Rattle.gb_types.specs.Types.{card_of, value_at}
-use Rattle.gb_reads.specs.Held.{with_values}
+use Rattle.gb_labels.specs.Held.{with_values}
 use Rattle.gb_eval.specs.Eval.{environment, eval, image_of, in_memories, narrowed, next_sum, part_of, quantified, summed, truth_at, value_bound, value_of, weighed, weighted}
 use Rattle.gb_eval.proofs.Layers.{eval_at, eval_other}
 use Rattle.gb_eval.proofs.Environments.{environment_is}

@@ -3,7 +3,7 @@ use Rattle.gb_dist.specs.declared.row.Row.{Row}
 use Rattle.gb_dist.specs.Lists.{imaged, is_positive}
 use Rattle.gb_dist.specs.Rows.{entries}
 use Rattle.gb_dist.proofs.Gathering.{positive_imaged, total_imaged}
-use Rattle.gb_coupling.specs.WeightedList.{WeightedList, total}
+use Rattle.gb_dist.specs.WeightedList.{WeightedList, total}
 use Rattle.gb_core.specs.declared.value.Value.{Value}
 use Rattle.gb_eval.proofs.making.imaged.Goals as goal
 

@@ -1,5 +1,5 @@
 use Rattle.std.proofs.Common.{◌≡◌, ◌+◌, ◌<◌, ◌^◌, drop}
-use Rattle.gb_coupling.specs.WeightedList.{total}
+use Rattle.gb_dist.specs.WeightedList.{total}
 use Rattle.gb_num.specs.Operations.{first_overflow}
 use Rattle.gb_dist.specs.Rows.{adding_steps}
 use Rattle.gb_meaning.specs.Distributions.{stated}

@@ -1,5 +1,5 @@
 use Rattle.std.proofs.Common.{◌≡◌, ◌<◌, true, sym, subst, ◌∙◌}
-use Rattle.gb_coupling.specs.WeightedList.{total}
+use Rattle.gb_dist.specs.WeightedList.{total}
 use Rattle.gb_dist.specs.Lists.{is_positive}
 use Rattle.gb_meaning.specs.Distributions.{stated}
 use Rattle.gb_eval.proofs.Weights.{each_ok, stated_above, stated_small, weights_positive}

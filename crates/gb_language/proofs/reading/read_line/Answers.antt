@@ -1,8 +1,8 @@
 use Rattle.std.proofs.Common.{◌≡◌, List, IfOk, IfErr, MatchResult, subst}
-use Rattle.gb_grammar.specs.declared.error.ReadError.{ReadError}
-use Rattle.gb_grammar.specs.declared.table.Step.{Step}
-use Rattle.gb_grammar.specs.Grammar.{Grammar}
-use Rattle.gb_grammar.specs.Reading.{Spells, IsFault}
+use Rattle.gb_script.specs.declared.error.ReadError.{ReadError}
+use Rattle.gb_script.specs.declared.table.Step.{Step}
+use Rattle.gb_script.specs.Grammar.{Grammar}
+use Rattle.gb_script.specs.Parsing.{Spells, IsFault}
 use Rattle.gb_language.specs.declared.rows.TheConstants.{GOALS}
 use Rattle.gb_script.specs.declared.action.Rule.{Rule}
 use Rattle.gb_language.proofs.Language.{goals_passed, passes_by, same_goal_language, starts_line}

@@ -1,7 +1,7 @@
 use Rattle.std.proofs.Common.{◌≡◌, ℕ, ◌+◌, ◌<◌, List, [], ◌∷◌, ◌++◌, length, get_or, sym, subst, ap, ◌∙◌, map, take}
 use Rattle.std.proofs.lemmas.List.{map_more, take_all}
 use Rattle.std.specs.List.{All}
-use Rattle.gb_grammar.specs.Reading.{IsKind}
+use Rattle.gb_script.specs.Parsing.{IsKind}
 use Rattle.gb_script.specs.declared.text.Lexeme.{Lexeme}
 use Rattle.gb_limits.specs.Kinds.{kind_of}
 use Rattle.gb_limits.proofs.AllKinds.{all_kinds}

@@ -2,7 +2,7 @@ use Rattle.std.proofs.Common.{◌≡◌, ℕ, ◌-◌, ◌≤◌, ◌<◌, List,
 use Rattle.std.specs.Prelude.{◌&&◌, ◌||◌, if◌then◌else◌}
 use Rattle.std.proofs.lemmas.List.{take_all}
 use borrow.Author.Tests.{le-leb, lt-leb}
-use Rattle.gb_grammar.specs.declared.table.Step.{Step}
+use Rattle.gb_script.specs.declared.table.Step.{Step}
 use Rattle.gb_script.specs.declared.action.Rule.{Rule}
 use Rattle.gb_script.specs.declared.text.Text.{Text}
 use Rattle.gb_script.specs.Text.{terminal_at}

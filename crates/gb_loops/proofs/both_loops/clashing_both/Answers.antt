@@ -2,7 +2,7 @@ use Rattle.std.proofs.Common.{◌≡◌, filter, Option, None, List, [], ◌∷�
 use Rattle.gb_core.specs.declared.var.Var.{Var}
 use Rattle.gb_terms.specs.declared.op.Side.TheVariants.{Left, Right}
 use Rattle.gb_walk.specs.Clash.{least_from, lesser}
-use Rattle.gb_parts.specs.Assigned.{is_clashing}
+use Rattle.gb_prog.specs.Assigned.{is_clashing}
 use Rattle.gb_loops.proofs.both_loops.clashing_both.Goals as goal
 
 least_append : (o : Option Var) (xs ys : List Var) → least_from (least_from o xs) ys ≡ least_from o (xs ++ ys)

@@ -1,7 +1,7 @@
 use Rattle.std.proofs.Common.{◌≡◌, drop, filter}
 use Rattle.std.specs.Option.{option_copied}
 use Rattle.gb_walk.specs.Clash.{least_from}
-use Rattle.gb_parts.specs.Assigned.{is_clashing}
+use Rattle.gb_prog.specs.Assigned.{is_clashing}
 use Rattle.gb_loops.proofs.both_loops.clashing_from.Given as goal
 
 abbrev pub invariant-loop-variable : goal.invariant-loop-variable

@@ -1,5 +1,5 @@
 use Rattle.std.proofs.Common.{◌≡◌, ◌++◌, drop}
-use Rattle.gb_holds.specs.Footprints.{globals_among}
+use Rattle.gb_meaning.specs.Footprints.{globals_among}
 use Rattle.gb_mods.proofs.order.globals_among.Given as goal
 
 abbrev pub invariant-loop-variable : goal.invariant-loop-variable

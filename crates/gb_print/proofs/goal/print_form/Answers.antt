@@ -1,5 +1,5 @@
 use Rattle.std.proofs.Common.{sym, subst}
-use Rattle.gb_print_text.specs.Goals.{place_of_form}
+use Rattle.gb_print.specs.GoalText.{place_of_form}
 use Rattle.gb_print.specs.Forms.{form_tree}
 use Rattle.gb_print.specs.ReadBack.{IsReadAs}
 use Rattle.gb_print.proofs.goal.print_form.Goals as goal

@@ -1,5 +1,5 @@
 use Rattle.std.proofs.Common.{sym, subst}
-use Rattle.gb_print_text.specs.Goals.{place_of_goal}
+use Rattle.gb_print.specs.GoalText.{place_of_goal}
 use Rattle.gb_print.specs.Goals.{IsGoalReadAs}
 use Rattle.gb_print.proofs.goal.print_goal.Goals as goal
 

@@ -1,7 +1,7 @@
 use Rattle.std.proofs.Common.{◌≡◌, drop}
 use Rattle.gb_print_names.specs.Text.{each}
-use Rattle.gb_shapes.specs.Names.{place}
-use Rattle.gb_print_text.specs.Goals.{hypothesis_line}
+use Rattle.gb_print_names.specs.BoundNames.{place}
+use Rattle.gb_print.specs.GoalText.{hypothesis_line}
 use Rattle.gb_print.proofs.goal.put_hypotheses.Given as goal
 
 abbrev pub invariant-loop-hyp : goal.invariant-loop-hyp

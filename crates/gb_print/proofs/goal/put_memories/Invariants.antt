@@ -1,6 +1,6 @@
 use Rattle.std.proofs.Common.{◌≡◌, drop}
 use Rattle.gb_print_names.specs.Text.{each}
-use Rattle.gb_print_text.specs.Goals.{memory_line}
+use Rattle.gb_print.specs.GoalText.{memory_line}
 use Rattle.gb_print.proofs.goal.put_memories.Given as goal
 
 abbrev pub invariant-loop-name : goal.invariant-loop-name

@@ -1,6 +1,6 @@
 use Rattle.std.proofs.Common.{◌≡◌, drop}
 use Rattle.gb_print_names.specs.Text.{each}
-use Rattle.gb_print_text.specs.Goals.{module_line}
+use Rattle.gb_print.specs.GoalText.{module_line}
 use Rattle.gb_print.proofs.goal.put_modules.Given as goal
 
 abbrev pub invariant-loop-bind : goal.invariant-loop-bind

@@ -1,6 +1,6 @@
 use Rattle.std.proofs.Common.{◌≡◌, drop}
 use Rattle.gb_print_names.specs.Text.{each}
-use Rattle.gb_print_text.specs.Goals.{variable_line}
+use Rattle.gb_print.specs.GoalText.{variable_line}
 use Rattle.gb_print.proofs.goal.put_variables.Given as goal
 
 abbrev pub invariant-loop-x : goal.invariant-loop-x

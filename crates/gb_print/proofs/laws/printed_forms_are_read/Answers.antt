@@ -1,8 +1,8 @@
 use Rattle.std.proofs.Common.{ap, ◌∙◌}
-use Rattle.gb_print_text.specs.Goals.{place_of_form}
+use Rattle.gb_print.specs.GoalText.{place_of_form}
 use Rattle.gb_print.specs.Nodes.{placeless}
 use Rattle.gb_print.specs.ReadBack.{tokens_at}
-use Rattle.gb_print_text.specs.Goals.{printed_form}
+use Rattle.gb_print.specs.GoalText.{printed_form}
 use Rattle.gb_print.proofs.FormsBack.{form_back, form_kept}
 use Rattle.gb_print.proofs.laws.printed_forms_are_read.Goals as goal
 

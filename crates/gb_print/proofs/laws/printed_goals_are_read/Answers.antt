@@ -1,5 +1,5 @@
 use Rattle.std.proofs.Common.{subst}
-use Rattle.gb_print_text.specs.Goals.{place_of_goal, printed_goal}
+use Rattle.gb_print.specs.GoalText.{place_of_goal, printed_goal}
 use Rattle.gb_print.specs.Goals.{IsTreeOf}
 use Rattle.gb_print.proofs.GoalsBack.{goal_back}
 use Rattle.gb_print.proofs.laws.printed_goals_are_read.Goals as goal

@@ -1,4 +1,4 @@
-use Rattle.gb_coupling.specs.Coupling.{Passes}
+use Rattle.gb_dist.specs.Coupling.{Passes}
 use Rattle.gb_prog.proofs.Couplings.{alike_ends, alike_chances, alike_left, alike_right}
 use Rattle.gb_prog.proofs.coupling_laws.alike_programs.Goals as goal
 

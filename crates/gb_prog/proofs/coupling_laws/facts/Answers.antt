@@ -1,5 +1,5 @@
 use Rattle.std.proofs.Common.{◌≡◌, true}
-use Rattle.gb_coupling.specs.Coupling.{Passes}
+use Rattle.gb_dist.specs.Coupling.{Passes}
 use Rattle.gb_meaning.specs.Commands.{statements}
 use Rattle.gb_prog.proofs.Couplings.{runs_facts}
 use Rattle.gb_prog.proofs.coupling_laws.facts.Goals as goal

@@ -1,4 +1,4 @@
-use Rattle.gb_coupling.specs.Coupling.{Passes}
+use Rattle.gb_dist.specs.Coupling.{Passes}
 use Rattle.gb_prog.proofs.Couplings.{runs_sequence}
 use Rattle.gb_prog.proofs.coupling_laws.sequence.Goals as goal
 

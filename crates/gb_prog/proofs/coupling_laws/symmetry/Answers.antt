@@ -1,5 +1,5 @@
 use Rattle.std.proofs.Common.{sym, ◌∙◌}
-use Rattle.gb_coupling.proofs.Basic.{coupling_weakening, coupling_symmetry}
+use Rattle.gb_dist.proofs.Basic.{coupling_weakening, coupling_symmetry}
 use Rattle.gb_meaning.specs.State.{between}
 use Rattle.gb_meaning.specs.Judgments.{IsTrueUnder}
 use Rattle.gb_prog.specs.Exchanged.{exchanged}

@@ -1,7 +1,7 @@
 use Rattle.std.specs.Prelude.{◌⊎◌, ℕ, List}
 use Rattle.std.proofs.Common.{inl, inr, ⊎_elim}
-use Rattle.gb_grammar.specs.declared.table.Step.{Step}
-use Rattle.gb_grammar.specs.Reading.{Spells, FirstFault, StepsBefore, IsTextOrFault}
+use Rattle.gb_script.specs.declared.table.Step.{Step}
+use Rattle.gb_script.specs.Parsing.{Spells, FirstFault, StepsBefore, IsTextOrFault}
 use Rattle.gb_script.specs.declared.action.Rule.{Rule}
 use Rattle.gb_language.specs.Language.{goal_language}
 use Rattle.gb_script.specs.declared.text.Text.{Text}

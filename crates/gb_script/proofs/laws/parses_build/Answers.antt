@@ -1,8 +1,8 @@
 use Rattle.std.specs.Prelude.{ℕ, List, [], ◌∷◌, ◌++◌}
 use Rattle.std.proofs.Common.{ap, sym, ◌∙◌, subst}
-use Rattle.gb_grammar.specs.declared.table.Step.{Step}
-use Rattle.gb_grammar.specs.declared.table.Symbol.TheVariants.{Part}
-use Rattle.gb_grammar.specs.Grammar.{Derives, done}
+use Rattle.gb_script.specs.declared.table.Step.{Step}
+use Rattle.gb_script.specs.declared.table.Symbol.TheVariants.{Part}
+use Rattle.gb_script.specs.Grammar.{Derives, done}
 use Rattle.gb_script.specs.declared.action.Rule.{Rule}
 use Rattle.gb_script.specs.Build.{built}
 use Rattle.gb_script.specs.Parse.{kinds, steps}

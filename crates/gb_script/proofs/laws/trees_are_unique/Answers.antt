@@ -1,9 +1,9 @@
 use Rattle.std.specs.Prelude.{◌≡◌, List, [], ◌∷◌}
 use Rattle.std.proofs.Common.{ap, ◌∙◌}
-use Rattle.gb_grammar.specs.declared.table.Step.{Step}
-use Rattle.gb_grammar.specs.Grammar.{grammar_of}
-use Rattle.gb_grammar.proofs.Rows.{sound_table}
-use Rattle.gb_grammar.proofs.Unique.{unique}
+use Rattle.gb_script.specs.declared.table.Step.{Step}
+use Rattle.gb_script.specs.Grammar.{grammar_of}
+use Rattle.gb_script.proofs.Rows.{sound_table}
+use Rattle.gb_script.proofs.Unique.{unique}
 use Rattle.gb_script.specs.declared.action.Rule.{Rule}
 use Rattle.gb_script.specs.declared.text.Text.{Text}
 use Rattle.gb_script.specs.declared.tree.Node.{Node}

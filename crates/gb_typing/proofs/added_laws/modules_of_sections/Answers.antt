@@ -1,5 +1,5 @@
 use Rattle.std.proofs.Common.{[], ◌∷◌}
-use Rattle.gb_holds.specs.Declared.{abstract_module}
+use Rattle.gb_meaning.specs.Declared.{abstract_module}
 use Rattle.gb_typing.proofs.SequentsAlike.{holds-along}
 use Rattle.gb_typing.proofs.SectionsAdded.{goes-beyond}
 use Rattle.gb_typing.proofs.LoopsAdded.{loops-along}

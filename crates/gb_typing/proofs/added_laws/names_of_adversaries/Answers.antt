@@ -1,4 +1,4 @@
-use Rattle.gb_holds.specs.Naming.{IsFresh}
+use Rattle.gb_meaning.specs.Naming.{IsFresh}
 use Rattle.gb_typing.specs.Naming.{IsKept}
 use Rattle.gb_typing.proofs.TypedNames.{linked-routine-names}
 use Rattle.gb_typing.proofs.added_laws.names_of_adversaries.Goals as goal

@@ -1,6 +1,6 @@
 use Rattle.gb_typing.proofs.ScopesAlike.{scope_alike, scope_closed, script_alike}
 use Rattle.gb_typing.proofs.alike_laws.closed_scopes.Goals as goal
-use Rattle.gb_holds.specs.Declared.{declared}
+use Rattle.gb_meaning.specs.Declared.{declared}
 use Rattle.gb_typing.specs.Scopes.{nothing}
 
 pub returns : goal.returns

@@ -1,7 +1,7 @@
 use Rattle.std.proofs.Common.{Bool, true, ◌&&◌, if◌then◌else◌, [], Option, Some, None, refl, ap, arith}
 use Rattle.gb_core.specs.declared.ty.Ty.TheVariants as ty
 use Rattle.gb_core.proofs.SameTypes.{ty_eq-Decides}
-use Rattle.gb_holds.specs.Examples.{main_name, game}
+use Rattle.gb_meaning.specs.HoldingExamples.{main_name, game}
 use Rattle.gb_typing.specs.Modules.{ProcedureType, lacking, procedure_of}
 use Rattle.gb_typing.specs.Scopes.{context_of, interface_with, procedure_types, IsTypedScope}
 use Rattle.gb_typing.specs.Examples.{games}

@@ -1,7 +1,7 @@
 use Rattle.std.proofs.Common.{[], ◌∷◌, ◌++◌, refl, ap, sym}
 use Rattle.gb_terms.specs.declared.module.Mexp.TheVariants.{Name as named}
-use Rattle.gb_holds.specs.Declared.{Declarations, concrete_module}
-use Rattle.gb_holds.specs.Examples.{game, game_name, game_with_keeper, keeper, keeper_name, main_name, oracle_and_adversary}
+use Rattle.gb_meaning.specs.Declared.{Declarations, concrete_module}
+use Rattle.gb_meaning.specs.HoldingExamples.{game, game_name, game_with_keeper, keeper, keeper_name, main_name, oracle_and_adversary}
 use Rattle.gb_typing.specs.Examples.{games, result_of_game}
 use Rattle.gb_typing.specs.Scopes.{nothing, context_of}
 use Rattle.gb_typing.proofs.Scripts.{none_some, same_some}

@@ -1,6 +1,6 @@
 use Rattle.std.proofs.Common.{◌≡◌, ℕ, List, refl, [], ◌∷◌, get_or, ap, sym, ◌∙◌, arith}
 use Rattle.std.proofs.lemmas.Fmt.{decimal_digit}
-use Rattle.gb_holds.specs.Examples.{any_oracle}
+use Rattle.gb_meaning.specs.HoldingExamples.{any_oracle}
 use Rattle.gb_typing.proofs.Literals.{bool_literal}
 use Rattle.gb_typing.proofs.examples.lemma_of_each_program.Goals as goal
 

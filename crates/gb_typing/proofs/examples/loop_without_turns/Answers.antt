@@ -1,5 +1,5 @@
 use Rattle.std.proofs.Common.{refl, [], arith}
-use Rattle.gb_holds.specs.Idling.{idling_name, idling}
+use Rattle.gb_meaning.specs.Idling.{idling_name, idling}
 use Rattle.gb_typing.specs.Scopes.{IsModule, nothing}
 use Rattle.gb_typing.proofs.Literals.{bool_literal, mod_literal}
 use Rattle.gb_typing.proofs.examples.loop_without_turns.Goals as goal

@@ -1,5 +1,5 @@
-use Rattle.gb_holds.specs.Settings.{types_of}
-use Rattle.gb_holds.specs.Holds.{interpretation}
+use Rattle.gb_meaning.specs.Settings.{types_of}
+use Rattle.gb_meaning.specs.Holds.{interpretation}
 use Rattle.gb_typing.proofs.PlainGlobals.{plain_world}
 use Rattle.gb_typing.proofs.WithModules.{later_agrees}
 use Rattle.gb_typing.proofs.setting_laws.added_modules.Goals as goal

@@ -1,4 +1,4 @@
-use Rattle.gb_holds.specs.Naming.{IsFresh}
+use Rattle.gb_meaning.specs.Naming.{IsFresh}
 use Rattle.gb_typing.proofs.Agreeing.{term_agrees, program_agrees, form_agrees}
 use Rattle.gb_typing.proofs.setting_laws.names.Goals as goal
 

@@ -1,6 +1,6 @@
-use Rattle.gb_holds.specs.Footprints.{footprint_read}
-use Rattle.gb_holds.specs.Modules.{no_module}
-use Rattle.gb_holds.specs.Settings.{footprints, with_abstract_footprints}
+use Rattle.gb_meaning.specs.Footprints.{footprint_read}
+use Rattle.gb_meaning.specs.Modules.{no_module}
+use Rattle.gb_meaning.specs.Settings.{footprints, with_abstract_footprints}
 use Rattle.gb_typing.proofs.ModulesAlike.{footprint-looks}
 use Rattle.gb_typing.specs.Scopes.{context_of}
 use Rattle.gb_typing.specs.Sequents.{of_sequent}

@@ -1,6 +1,6 @@
 use Rattle.std.proofs.Common.{◌∙◌}
-use Rattle.gb_holds.specs.Declared.{declared}
-use Rattle.gb_holds.proofs.Lists.{declared-module}
+use Rattle.gb_meaning.specs.Declared.{declared}
+use Rattle.gb_meaning.proofs.Lists.{declared-module}
 use Rattle.gb_typing.specs.Scopes.{context_of}
 use Rattle.gb_goal.specs.Instances.{name_of}
 use Rattle.gb_typing.proofs.ChosenInstances.{instance_runs}

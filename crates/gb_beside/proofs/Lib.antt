@@ -1,3 +1,0 @@
-mod BesideIsSound
-mod BoundNames
-mod Seats

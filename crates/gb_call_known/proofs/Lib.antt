@@ -1,4 +1,0 @@
-pub mod Answered
-pub mod FirstGoals
-pub mod KnownIsSound
-mod Returned

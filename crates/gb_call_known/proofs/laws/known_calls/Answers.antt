@@ -1,5 +1,0 @@
-use Rattle.gb_call_known.proofs.KnownIsSound.{leads}
-use Rattle.gb_call_known.proofs.laws.known_calls.Goals as goal
-
-pub returns : goal.returns
-returns x = λ ds scoped q t a f w known place qs. leads ds scoped q t a f w known place qs

@@ -1,3 +1,0 @@
-pub mod Chances
-pub mod First
-pub mod Views

@@ -1,5 +1,0 @@
-use Rattle.gb_coupling.proofs.Gluing.{coupling_gluing}
-use Rattle.gb_coupling.proofs.coupling_laws.gluing.Goals as goal
-
-pub returns : goal.returns
-returns g c = λ e l1 k1 l2 k2 l3 k3 h c1 c2. coupling_gluing e g.Q.Relation.Related g.R.Relation.Related h c1 c2

@@ -1,5 +1,0 @@
-use Rattle.gb_coupling.proofs.Basic.{coupling_identity}
-use Rattle.gb_coupling.proofs.coupling_laws.identity.Goals as goal
-
-pub returns : goal.returns
-returns g c = λ l k h o. coupling_identity g.P.Property.Holds l k h o

@@ -1,5 +1,0 @@
-use Rattle.gb_coupling.proofs.Sequence.{coupling_sequence}
-use Rattle.gb_coupling.proofs.coupling_laws.sequence.Goals as goal
-
-pub returns : goal.returns
-returns g c = λ l1 j1 l2 j2 m1 k1 m2 k2 d h. coupling_sequence g.Q.Relation.Related m1 k1 m2 k2 g.R.Relation.Related d h

@@ -1,5 +1,0 @@
-use Rattle.gb_coupling.proofs.Distributions.{same_order}
-use Rattle.gb_coupling.proofs.list_laws.independent.Goals as goal
-
-pub returns : goal.returns
-returns g c = λ l r h k. same_order l r h k

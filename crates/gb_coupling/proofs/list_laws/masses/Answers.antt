@@ -1,9 +1,0 @@
-use Rattle.gb_coupling.proofs.Masses.{mass-bind, mass-dmap, mass-scale}
-use Rattle.gb_coupling.proofs.list_laws.masses.Goals as goal
-
-pub returns : goal.returns
-returns g c = record {
-  of_bind = λ l k f. mass-bind l k f;
-  of_map = λ m l f. mass-dmap m l f;
-  of_scale = λ w l f. mass-scale w l f;
-}

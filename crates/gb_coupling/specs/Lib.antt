@@ -1,4 +1,0 @@
-pub mod WeightedList
-pub mod Coupling
-pub mod Existence
-pub mod Examples

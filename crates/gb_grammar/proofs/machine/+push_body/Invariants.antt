@@ -1,5 +1,0 @@
-use Rattle.std.proofs.Common.{length, ◌-◌}
-use Rattle.gb_grammar.proofs.machine.+push_body.Given as goal
-
-abbrev pub decreases-push_body : goal.decreases-push_body
-decreases-push_body l = length l.symbols.now - l.start

@@ -1,4 +1,0 @@
-pub mod Grammar
-pub mod Check
-pub mod Stack
-pub mod Reading

@@ -1,8 +1,0 @@
-pub mod Deciding
-pub mod DecidedIsSound
-pub mod RulesAreSound
-pub mod Shapes
-mod Turns
-mod UnrollIsSound
-mod Decides
-mod Unrolls

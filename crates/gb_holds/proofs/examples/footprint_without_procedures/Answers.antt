@@ -1,5 +1,0 @@
-use Rattle.std.proofs.Common.{refl}
-use Rattle.gb_holds.proofs.examples.footprint_without_procedures.Goals as goal
-
-pub returns : goal.returns
-returns c = record { entry = refl; globals = λ size table. refl }

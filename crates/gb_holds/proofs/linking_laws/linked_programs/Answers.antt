@@ -1,8 +1,0 @@
-use Rattle.gb_holds.proofs.Links.{link-linked, linked-link}
-use Rattle.gb_holds.proofs.linking_laws.linked_programs.Goals as goal
-
-pub returns-clause-unchanged : goal.returns-clause-unchanged
-returns-clause-unchanged c = λ os p h. link-linked os p h
-
-pub returns-clause-linked : goal.returns-clause-linked
-returns-clause-linked c = λ os all p. linked-link os all p

@@ -1,5 +1,0 @@
-use Rattle.gb_holds.proofs.Later.{later}
-use Rattle.gb_holds.proofs.module_laws.later_declarations.Goals as goal
-
-pub returns : goal.returns
-returns X c = λ read ms ds es m h. later read ms ds es m h

@@ -1,5 +1,0 @@
-use Rattle.gb_holds.proofs.Later.{same_body}
-use Rattle.gb_holds.proofs.module_laws.program_of_body.Goals as goal
-
-pub returns : goal.returns
-returns c = λ g h is e. same_body g h is e

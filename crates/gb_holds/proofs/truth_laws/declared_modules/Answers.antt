@@ -1,5 +1,0 @@
-use Rattle.gb_holds.proofs.DeclaredBinders.{holds-bound}
-use Rattle.gb_holds.proofs.truth_laws.declared_modules.Goals as goal
-
-pub returns : goal.returns
-returns c = λ ds q h. holds-bound ds q h

@@ -1,5 +1,0 @@
-use Rattle.gb_holds.proofs.Renaming.{names_alike}
-use Rattle.gb_holds.proofs.truth_laws.renamed_contexts.Goals as goal
-
-pub returns : goal.returns
-returns c = names_alike

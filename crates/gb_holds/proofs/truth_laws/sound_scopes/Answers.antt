@@ -1,5 +1,0 @@
-use Rattle.gb_holds.proofs.Scopes as scopes
-use Rattle.gb_holds.proofs.truth_laws.sound_scopes.Goals as goal
-
-pub returns : goal.returns
-returns c = λ ds n d. scopes.one_more ds n d

@@ -1,5 +1,0 @@
-use Rattle.gb_holds.proofs.SettingTypes.{setting-types}
-use Rattle.gb_holds.proofs.truth_laws.types.Goals as goal
-
-pub returns : goal.returns
-returns c = λ ds i. setting-types ds i

@@ -1,5 +1,0 @@
-//! Maps as lists of entries.
-#![tactic(auto)]
-
-pub mod entries;
-pub mod keys;

@@ -1,5 +1,0 @@
-use Rattle.std.proofs.Common.{rules}
-use Rattle.gb_members.proofs.counted.is_tried.Goals as goal
-
-pub returns-in-Exact : goal.returns-in-Exact
-returns-in-Exact c = search rules steps 300000

@@ -1,5 +1,0 @@
-use Rattle.gb_models.proofs.Falsehood.{no_lemma}
-use Rattle.gb_models.proofs.idle_laws.false_is_no_lemma.Goals as goal
-
-pub returns : goal.returns
-returns c = λ ds w size table model e. no_lemma ds w size table model e

@@ -1,6 +1,0 @@
-use Rattle.gb_laws.proofs.Fair.{memory_discrete}
-use Rattle.gb_models.proofs.Promised.{couplings}
-use Rattle.gb_models.proofs.promise_laws.equivalences_give_couplings.Goals as goal
-
-pub returns : goal.returns
-returns c = record { coupled = couplings; told_apart = memory_discrete }

@@ -1,5 +1,0 @@
-use Rattle.gb_models.proofs.Models.{model, no_section, no_falsehood}
-use Rattle.gb_models.proofs.promise_laws.typed_scopes_have_models.Goals as goal
-
-pub returns : goal.returns
-returns c = record { model = model; no_section = no_section; no_falsehood = no_falsehood }

@@ -1,5 +1,0 @@
-use Rattle.gb_models.proofs.GrowingGoals.{stays_typed}
-use Rattle.gb_models.proofs.stay_laws.goals_stay_typed.Goals as goal
-
-pub returns : goal.returns
-returns c = stays_typed

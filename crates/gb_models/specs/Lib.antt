@@ -1,4 +1,0 @@
-pub mod Idle
-pub mod Falsehood
-pub mod Promised
-pub mod Speaking

@@ -1,5 +1,0 @@
-use Rattle.gb_mods_laws.proofs.Linked.{linked_runs}
-use Rattle.gb_mods_laws.proofs.footprint_laws.linked_procedures.Goals as goal
-
-pub returns : goal.returns
-returns c ds scoped g over p l e = linked_runs ds scoped g over p l e

@@ -1,5 +1,0 @@
-use Rattle.gb_mods_laws.proofs.EndedModules as modules
-use Rattle.gb_mods_laws.proofs.loop_laws.ended_modules.Goals as goal
-
-pub returns : goal.returns
-returns c = λ ds t y s k p h a e. modules.ended_reaches ds t y s k p h a e

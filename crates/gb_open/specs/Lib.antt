@@ -1,3 +1,0 @@
-pub mod Coupled
-pub mod Kept
-pub mod Judged

@@ -1,5 +1,0 @@
-use Rattle.gb_parts.proofs.Chances.{after_full, after_less}
-use Rattle.gb_parts.proofs.chance_laws.sequences.Goals as goal
-
-pub returns : goal.returns
-returns x = record { full = after_full; less = after_less }

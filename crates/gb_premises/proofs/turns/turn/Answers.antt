@@ -1,5 +1,0 @@
-use Rattle.std.proofs.Common.{refl}
-use Rattle.gb_premises.proofs.turns.turn.Goals as goal
-
-pub returns : goal.returns
-returns c = rw (c.in_ok-guard.ensures, c.in_ok-body.ensures, c.in_ok-nothing.ensures, c.new.ensures) refl

@@ -1,4 +1,0 @@
-use Rattle.gb_premises.proofs.variants.less.Goals as goal
-
-pub returns : goal.returns
-returns c = rw c.in_ok-ty.ensures at c.binary.ensures

@@ -1,5 +1,0 @@
-use Rattle.gb_reads.proofs.Memories.{all_apart, of_types, exist}
-use Rattle.gb_reads.proofs.laws.memories.Goals as goal
-
-pub returns : goal.returns
-returns c = record { of_types = of_types; apart = all_apart; exist = exist }

@@ -1,3 +1,0 @@
-pub mod Reads
-pub mod Held
-pub mod Memories

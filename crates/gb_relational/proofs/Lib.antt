@@ -1,4 +1,0 @@
-mod MemoryBetween
-pub mod OneSideIsSound
-mod Others
-pub mod TransitivityIsSound

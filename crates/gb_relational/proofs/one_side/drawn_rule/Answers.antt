@@ -1,4 +1,0 @@
-use Rattle.gb_relational.proofs.one_side.drawn_rule.Goals as goal
-
-pub returns : goal.returns
-returns c = c.placed.ensures _ c.drawn-made.ensures

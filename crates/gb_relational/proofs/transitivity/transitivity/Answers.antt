@@ -1,4 +1,0 @@
-use Rattle.gb_relational.proofs.transitivity.transitivity.Goals as goal
-
-pub returns : goal.returns
-returns c = c.placed.ensures _ c.by_way-made.ensures

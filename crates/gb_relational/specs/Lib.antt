@@ -1,3 +1,0 @@
-pub mod OneSide
-pub mod Rows
-pub mod Transitivity

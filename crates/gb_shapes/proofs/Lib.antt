@@ -1,2 +1,0 @@
-pub mod OpenSteps
-pub mod Primes

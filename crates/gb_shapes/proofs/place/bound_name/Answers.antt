@@ -1,5 +1,0 @@
-use Rattle.std.proofs.Common.{rules}
-use Rattle.gb_shapes.proofs.place.bound_name.Goals as goal
-
-pub returns : goal.returns
-returns c = search rules steps 1000000

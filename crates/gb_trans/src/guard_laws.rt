@@ -1,0 +1,28 @@
+//! What the rules promise that put other statements into a program.
+
+ghost use Rattle.std.specs.Prelude.{◌≡◌};
+ghost use Rattle.gb_core.specs.declared.refusal.Why.TheVariants.{Shape};
+ghost use Rattle.gb_goal.specs.Goal.Goal.{ambient};
+ghost use Rattle.gb_goal.specs.Rows.{refusing};
+ghost use Rattle.gb_goal.specs.Scope.{Declarations};
+ghost use Rattle.gb_goal.specs.declared.sequent.Sequent.{Sequent};
+ghost use Rattle.gb_meaning.specs.Declared.{declared};
+ghost use Rattle.gb_steps.specs.declared.step.Rule.{Rule};
+ghost use Rattle.gb_terms.specs.declared.term.Term.{Term};
+ghost use Rattle.gb_typing.specs.Rules.{no_arguments};
+ghost use Rattle.gb_typing.specs.Scopes.{context_of, IsTypedScope};
+ghost use Rattle.gb_typing.specs.Sequents.{of_sequent, IsTypedSequent};
+ghost use Rattle.gb_prog.specs.Ends.{IsSoundLoopRule};
+ghost use Rattle.gb_trans.specs.GuardRows.{rule_row};
+
+/// Each such rule is sound over each typed scope, at the goal of each typed sequent whose loops end: what it gives is typed and implies the
+/// goal, and its loops end.
+pub fn guarded_rules()
+    ensures { (ds : Declarations) → IsTypedScope (declared ds) → (q : Sequent) (t : IsTypedSequent (context_of (declared ds)) q) → (r : Rule) →
+        IsSoundLoopRule (declared ds) (of_sequent (context_of (declared ds)) q t.frames) (rule_row ds r) no_arguments }
+{}
+
+/// A form that is no judgment is refused.
+pub fn unguarded_forms()
+    ensures { (ds : Declarations) (r : Rule) (f : Term) → rule_row ds r (ambient f) ≡ refusing Shape }
+{}
