@@ -101,7 +101,7 @@ def wrapped(items, separator):
 
 
 def rows_file(table, rows):
-    lines = ["// Written by tools/actions.py from script.txt.", "", "use gb_grammar::table::Row;",
+    lines = ["// Written by tools/actions.py from script.txt.", "", "use gb_script::table::Row;",
              "use gb_script::action::{Action, Mark, Rule};", "use gb_script::head::Head;", ""]
     for start in table.starts:
         lines += [f"/// The part `{start}`.", f"pub const {start.upper()}: u8 = {table.numbers[start]};", ""]
@@ -124,8 +124,8 @@ def rows_file(table, rows):
 def bodies_file(table, rows):
     def symbol(name):
         return f"[{table.numbers[name]}]" if name in table.parts else str(table.kinds[name])
-    lines = ["// Written by tools/actions.py from script.txt.", "", "use gb_grammar::table::Symbol;",
-             "use gb_grammar::table::Symbol::{Part, Token};", ""] + BODIES_MACRO.splitlines()
+    lines = ["// Written by tools/actions.py from script.txt.", "", "use gb_script::table::Symbol;",
+             "use gb_script::table::Symbol::{Part, Token};", ""] + BODIES_MACRO.splitlines()
     lines += ["", "/// The bodies of the rows, each up to a `Token(0)`.",
               f"pub const SYMBOLS: [Symbol; {sum(len(production.body) + 1 for _, production, *_ in rows)}] = bodies! {{"]
     bodies = [" ".join([symbol(s) for s in production.body] + [";"]) for _, production, *_ in rows]
@@ -165,7 +165,7 @@ def grouped(name, kind, leaves):
 def claims_file(table):
     lines = ["-- Written by tools/actions.py from script.txt: what is claimed of each part.",
              "use Rattle.std.specs.Prelude.{ℕ, Bool, [], ◌∷◌, true, false, nat_lt, slice_index_or, if◌then◌else◌}",
-             "use Rattle.gb_grammar.specs.Check.{Claim, Claims}", "", "abbrev claim : Bool → ℕ → ℕ → ℕ → ℕ → Claim",
+             "use Rattle.gb_script.specs.Check.{Claim, Claims}", "", "abbrev claim : Bool → ℕ → ℕ → ℕ → ℕ → Claim",
              "claim n a b w h = record { nullable = n; first = a; follow = b; weight = w; height = h }", ""]
     parts = table.parts.values()
     claims, choice = grouped("claims", "Claim", [
@@ -180,10 +180,10 @@ def checked_file(crate):
     lines = ["-- Written by tools/actions.py: the table passes its tests.", "use Rattle.std.specs.Prelude.{◌≡◌, true}",
              "use Rattle.std.proofs.Common.{refl}", f"use Rattle.{crate}.specs.declared.rows.TheConstants.{{ROWS, PLACES}}",
              f"use Rattle.{crate}.specs.declared.bodies.TheConstants.{{SYMBOLS}}", f"use Rattle.{crate}.specs.Claims.{{claims}}",
-             "use Rattle.gb_grammar.specs.Grammar.{grammar_of}", f"use Rattle.{crate}.specs.Sorts.{{part_sorts, signatures}}",
+             "use Rattle.gb_script.specs.Grammar.{grammar_of}", f"use Rattle.{crate}.specs.Sorts.{{part_sorts, signatures}}",
              f"use Rattle.{crate}.specs.Spelling.{{spelling}}", f"use Rattle.{crate}.specs.Language.{{still_kinds}}", "use Rattle.gb_script.specs.Acts.{sorts_ok}",
-             "use Rattle.gb_script.specs.Spelled.{spellings_ok, still_ok}", "use Rattle.gb_grammar.specs.Check.{productions_ok, places_ok, grammar_ok}",
-             "use Rattle.gb_grammar.proofs.Bodies.{bodies, in_order, grammar_with, grammar_passes}",
+             "use Rattle.gb_script.specs.Spelled.{spellings_ok, still_ok}", "use Rattle.gb_script.specs.Check.{productions_ok, places_ok, grammar_ok}",
+             "use Rattle.gb_script.proofs.Bodies.{bodies, in_order, grammar_with, grammar_passes}",
              "", "ordered : in_order 0 ROWS (bodies SYMBOLS) ≡ true", "ordered = refl"]
     for stage, name in enumerate(STAGE_NAMES):
         low = name.lower()
