@@ -3,7 +3,7 @@ use Rattle.std.proofs.Common.{◌≡◌, Bool, true, false, ◌&&◌, if◌then�
 use Rattle.std.proofs.lemmas.Option.{same_Some, none-some}
 use Rattle.std.specs.List.{AllByRecursion}
 use Rattle.std.specs.Option.{option_map}
-use Rattle.gb_core.specs.declared.refusal.Why.TheVariants.{Shape}
+use Rattle.gb_core.specs.declared.refusal.Why.TheVariants.{NotLossless, Shape}
 use Rattle.gb_core.specs.declared.var.Var.{Var}
 use Rattle.gb_terms.specs.declared.decl.TypedName.{TypedName}
 use Rattle.gb_terms.specs.declared.module.ProcRef.{ProcRef}
@@ -26,7 +26,8 @@ use Rattle.gb_meaning.specs.Holds.{LoopsAreGood}
 use Rattle.gb_mods.specs.Exclusions.{exclusions}
 use Rattle.gb_mods.specs.Written.{written}
 use Rattle.gb_steps.specs.declared.step.AbstractRule.{AbstractRule}
-use Rattle.gb_steps.specs.declared.step.AbstractRule.TheVariants.{Call, Proc}
+use Rattle.gb_steps.specs.declared.step.AbstractRule.TheVariants.{Call, CallUntil, Proc}
+use Rattle.gb_steps.specs.declared.step.Until.{Until}
 use Rattle.gb_typing.specs.Context.{Context}
 use Rattle.gb_typing.specs.Goals.{IsGoalOver}
 use Rattle.gb_typing.specs.Programs.{IsBody}
@@ -40,11 +41,14 @@ use Rattle.gb_call.specs.Outcomes.{clash_after}
 use Rattle.gb_call.proofs.LastCalls.{called_typed}
 use Rattle.gb_adv.specs.Abstract.{AbstractCall, AbstractProcedure, abstract_call, abstract_procedure, calling, same_abstract}
 use Rattle.gb_adv.specs.Call.{before_call, both_goals, by_writes, by_written, call_row, clash_of_both, on_both, on_one, one_goals, read_after}
-use Rattle.gb_adv.specs.Oracles.{behind, each_keep_both, each_keeps, keep_both, meeting, meeting_both, with_both, writes_of}
+use Rattle.gb_adv.specs.Oracles.{behind, each_keep_both, each_keeps, keep_both, meeting, meeting_both, with_both, writes_of, keeps}
 use Rattle.gb_adv.specs.OwnNames.{own_names}
 use Rattle.gb_adv.specs.Proc as procedures_of
 use Rattle.gb_adv.specs.Proc.{proc_row}
 use Rattle.gb_adv.specs.Rows.{abstract_row}
+use Rattle.gb_adv.specs.Until.{by_full, by_writes_until, each_keep_until, end_until, as_long, keep_until, on_both_until, until_goals, until_row, where_both_full, with_until}
+use Rattle.gb_call_both.specs.OneSide.{speaks, where_full}
+use Rattle.gb_full.specs.Loss.{Loss, nowhere, sampled, called, code_loss}
 use Rattle.gb_accepted.proofs.CallsEnd.{few, unclashing}
 
 -- what is given where a test holds
@@ -89,6 +93,31 @@ module _ (ds : Declarations) (g : Setting) (c : Context) where
       by_types rest (Some t) None e = refused_given Shape Gs e
       by_types rest None u e = refused_given Shape Gs e
 
+  -- two goals for each oracle, of what is kept until an event has come about
+  until_pairs_end : (u : Until) (os ps : List ProcRef) (Gs : List Goal) → each_keep_until ds u os ps ≡ given Gs → End Gs
+  until_pairs_end u [] ps Gs e = subst End (same_given [] Gs e) tt
+  until_pairs_end u (o ∷ os) [] Gs e = subst End (same_given [] Gs e) tt
+  until_pairs_end u (o ∷ os) (p ∷ ps) Gs e = by_types (λ Hs f. until_pairs_end u os ps Hs f) (procedure_type ds None o) (procedure_type ds None p) e
+    where
+      by_types : ((Hs : List Goal) → each_keep_until ds u os ps ≡ given Hs → End Hs) → (t v : Option ProcedureType) → with_until u o t p v (each_keep_until ds u os ps) ≡ given Gs → End Gs
+      by_types rest (Some t) (Some v) e =
+          front_ends (keep_until u o t p v) (in_front (keeps u.event p) (each_keep_until ds u os ps)) Gs (tt, tt)
+          (λ Hs f. front_ends (keeps u.event p) (each_keep_until ds u os ps) Hs tt rest f)
+          (tested (own_names t.params && own_names v.params) (in_front (keep_until u o t p v) (in_front (keeps u.event p) (each_keep_until ds u os ps))) Gs e)
+      by_types rest (Some t) None e = refused_given Shape Gs e
+      by_types rest None v e = refused_given Shape Gs e
+
+  -- what is given where nothing loses weight
+  full_given : (l : Loss) (a : Answer (List Goal)) (Gs : List Goal) → where_full l a ≡ given Gs → a ≡ given Gs
+  full_given nowhere a Gs e = e
+  full_given (sampled x) a Gs e = refused_given (NotLossless x) Gs e
+  full_given called a Gs e = refused_given Shape Gs e
+
+  -- .. and where a test doesn't hold
+  untested : (b : Bool) (a : Answer (List Goal)) (Gs : List Goal) → (if b then refusing Shape else a) ≡ given Gs → a ≡ given Gs
+  untested true a Gs e = refused_given Shape Gs e
+  untested false a Gs e = e
+
   -- Calls.
 
   call_there : (o : Option LastCall) (k : AbstractCall) → abstract_call ds o ≡ Some k → o ≡ Some k.call
@@ -129,6 +158,37 @@ module _ (ds : Declarations) (g : Setting) (c : Context) where
         (before_ends ls is w k f h) (before_ends rs js v l j z)
     on_both_end ls rs is js w v (Some k) None f j e h z = refused_given Shape Gs e
     on_both_end ls rs is js w v None y f j e h z = refused_given Shape Gs e
+
+    until_end : (u : Until) (k l : AbstractCall) (x y : Option (List TypedVariable)) → until_goals ds u k l p q x y ≡ given Gs → Good k.call.before → Good l.call.before → End Gs
+    until_end u k l (Some W) (Some U) e h j = behind_ends (each_keep_until ds u k.called.oracles l.called.oracles) _ Gs (λ Fs f. until_pairs_end u k.called.oracles l.called.oracles Fs f) ((h, j), tt) e
+    until_end u k l (Some W) None e h j = refused_given Shape Gs e
+    until_end u k l None y e h j = refused_given Shape Gs e
+
+    writes_until_end : (u : Until) (k l : AbstractCall) (x y : Option (List Var)) → by_writes_until ds u k l p q x y ≡ given Gs → Good k.call.before → Good l.call.before → End Gs
+    writes_until_end u k l (Some W) (Some U) e h j =
+        let said = end_until u k.called in
+        let V = read_after ds Left k said q W in
+        let T = read_after ds Right l said q U in
+        let goals = until_goals ds u k l p q V T in
+        let clash = clash_of_both (exclusions ds) k l said q W U in
+        let meet = meeting_both (exclusions ds) k.called.owner (as_long u u.kept) W U in
+        let right = where_full (code_loss ds (procedure l.call.procedure)) goals in
+        let full = unclashing clash (by_full ds u said k l p q W U) Gs (unclashing meet (unless_clash clash (by_full ds u said k l p q W U)) Gs e) in
+        until_end u k l V T (full_given (code_loss ds (procedure l.call.procedure)) goals Gs (full_given (code_loss ds (procedure k.call.procedure)) right Gs full)) h j
+    writes_until_end u k l (Some W) None e h j = refused_given Shape Gs e
+    writes_until_end u k l None y e h j = refused_given Shape Gs e
+
+    on_both_until_end : (u : Until) (ls rs : List TypedName) (is js : List Instr) → IsBody c ls is → IsBody c rs js → (x y : Option AbstractCall) → abstract_call ds (last_call is) ≡ x → abstract_call ds (last_call js) ≡ y →
+        on_both_until ds u p q x y ≡ given Gs → Good is → Good js → End Gs
+    on_both_until_end u ls rs is js w v (Some k) (Some l) f j e h z =
+        let goals = by_writes_until ds u k l p q (writes_of ds k.called.oracles) (writes_of ds l.called.oracles) in
+        let silent = if speaks u.event then refusing Shape else goals in
+        let test = tested (same_abstract k.called l.called) (if_few k.call.targets (if_few l.call.targets silent)) Gs e in
+        writes_until_end u k l (writes_of ds k.called.oracles) (writes_of ds l.called.oracles)
+        (untested (speaks u.event) goals Gs (few l.call.targets silent Gs (few k.call.targets (if_few l.call.targets silent) Gs test)))
+        (before_ends ls is w k f h) (before_ends rs js v l j z)
+    on_both_until_end u ls rs is js w v (Some k) None f j e h z = refused_given Shape Gs e
+    on_both_until_end u ls rs is js w v None y f j e h z = refused_given Shape Gs e
 
     one_ends : (k : AbstractCall) (x : Option (List TypedVariable)) → one_goals k i p q x ≡ given Gs → Good k.call.before → End Gs
     one_ends k None e h = refused_given Shape Gs e
@@ -178,6 +238,14 @@ module _ (ds : Declarations) (g : Setting) (c : Context) where
   calls_end i ls rs (phoare a r p q b) w Gs e h = refused_given Shape Gs e
   calls_end i ls rs (ambient f) w Gs e h = refused_given Shape Gs e
 
+  until_ends : (u : Until) (ls rs : List TypedName) (G : Goal) → IsGoalOver c ls rs G → (Gs : List Goal) → until_row ds u G ≡ given Gs → LoopsEnd g G → End Gs
+  until_ends u ls rs (equiv (body is) (body js) p q) w Gs e h = on_both_until_end u.kept p q Gs u ls rs is js w.1 w.2 (abstract_call ds (last_call is)) (abstract_call ds (last_call js)) refl refl e h.0 h.1
+  until_ends u ls rs (equiv (body is) (procedure f) p q) w Gs e h = refused_given Shape Gs e
+  until_ends u ls rs (equiv (procedure f) b p q) w Gs e h = refused_given Shape Gs e
+  until_ends u ls rs (hoare a p q) w Gs e h = refused_given Shape Gs e
+  until_ends u ls rs (phoare a r p q b) w Gs e h = refused_given Shape Gs e
+  until_ends u ls rs (ambient f) w Gs e h = refused_given Shape Gs e
+
   proc_ends : (i : Term) (G : Goal) (Gs : List Goal) → proc_row ds i G ≡ given Gs → End Gs
   proc_ends i (equiv (procedure f) (procedure h) p q) Gs e = of_both_end i p q Gs (abstract_procedure ds f) (abstract_procedure ds h) e
   proc_ends i (hoare (procedure f) p q) Gs e = of_one_ends i p q Gs (abstract_procedure ds f) e
@@ -189,4 +257,5 @@ module _ (ds : Declarations) (g : Setting) (c : Context) where
 
 pub abstract_ends : (ds : Declarations) (c : Context) (ls rs : List TypedName) (r : AbstractRule) (G : Goal) → IsGoalOver c ls rs G → (Gs : List Goal) → abstract_row ds r G ≡ given Gs → KeepsEnds (declared ds) Gs G
 abstract_ends ds c ls rs (Call i) G w Gs e g over h = calls_end ds g c i ls rs G w Gs e h
+abstract_ends ds c ls rs (CallUntil u) G w Gs e g over h = until_ends ds g c u ls rs G w Gs e h
 abstract_ends ds c ls rs (Proc i) G w Gs e g over h = proc_ends ds g c i G Gs e

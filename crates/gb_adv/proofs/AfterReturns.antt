@@ -51,7 +51,7 @@ use Rattle.gb_call.specs.Outcomes.{Outcome}
 use Rattle.gb_call.proofs.After.{all_append, written_both}
 use Rattle.gb_call.proofs.LeftSides.{AreFor, are_for, left_ends, left_puts, left_values, left_writes}
 use Rattle.gb_call_both.specs.BothOutcomes.{bound_of_both, globals_of, left_side_of, result_of}
-use Rattle.gb_call_both.proofs.AfterBoth.{Covers, IsReturned, finite_types, frame_if, globals_located, left_returned, returned_means, said_means, said_typed, values_have}
+use Rattle.gb_call_both.proofs.AfterBoth.{AreAmong, Covers, IsReturned, finite_types, frame_if, globals_among, globals_located, left_returned, returned_means, said_means, said_typed, values_have}
 use Rattle.gb_call_both.proofs.OneSide.{ends_with_result, ends_without_result, result_variable}
 use Rattle.gb_call_both.proofs.Sided.{pushed_append, values_typed}
 use Rattle.gb_adv.specs.Returns.{Returns, after_where, inside_result, oracle_writes, owner_changes, result_changes, values}
@@ -134,6 +134,9 @@ module _ (b : Context) (ls rs : List TypedName) (R : Ty) (W V : List TypedVariab
   right_in true = (owned, right_globals)
   right_in false = right_globals
 
+  among : (d : Bool) → AreAmong b (with_owner d a W) V (G d)
+  among d = globals_among b (with_owner d a W) V (left_in d) right_globals
+
   -- The result goes to both left sides.
 
   there : (d : Bool) → get_or (X true d) (length (G d)) module_binder ≡ value_binder R
@@ -205,7 +208,7 @@ module _ (b : Context) (ls rs : List TypedName) (R : Ty) (W V : List TypedVariab
         subst (λ cs. IsForm (inside l d) (term_changed q (cs ++ to_bound_values (G d))))
         (map-append (λ (w : Written). ToTerm (Program w.variable w.side) w.term) us vs ∙ (λ k. left_results_are l d none k ++ right_writes_are l d none (Num 0) k))
         (values_typed b (Some ls) (Some rs) (X l d) (Y l d) (G d) (pushed binder_of (result_of l (left_outcome d)) []) (pushed_append binder_of (result_of l (left_outcome d)) (G d) [])
-        (globals_located b ls rs R R (with_owner d a W) V (left_in d) right_globals finite finite xs ys left_takes right_takes left_few right_few ls rs (with_owner d a W) V (left_in d) right_globals) (us ++ vs)
+        (globals_located b ls rs (with_owner d a W) V (left_in d) right_globals) (us ++ vs)
         (all_append (IsTypedPut (inside l d)) us vs (left_typed l d none) (all_append (IsTypedPut (inside l d)) (right_results l d none) (owner_results d (Num 0)) (right_typed l d none) (owner_typed l d (Num 0)))) q end_form)
 
     -- what is said before the calls is a form
@@ -213,9 +216,9 @@ module _ (b : Context) (ls rs : List TypedName) (R : Ty) (W V : List TypedVariab
     returns_typed =
         subst (IsForm (reframed (outermost b) None (Some ls) (Some rs))) (sym (form_is l d i q))
         (for_all_typed b None (Some ls) (Some rs) (all l d) [] []
-        (finite_types b ls rs R R (with_owner d a W) V (left_in d) right_globals finite finite xs ys left_takes right_takes left_few right_few l false) _
+        (finite_types b ls rs R R (with_owner d a W) V (left_in d) right_globals finite finite xs ys left_takes right_takes left_few right_few (G d) (among d) l false) _
         (implies_typed (inside l d) (said_of l d i) (after_of l d q)
-        (said_typed b ls rs R R (with_owner d a W) V (left_in d) right_globals finite finite xs ys left_takes right_takes left_few right_few i q l false kept_form end_form) after_typed))
+        (said_typed b ls rs R R (with_owner d a W) V (left_in d) right_globals finite finite xs ys left_takes right_takes left_few right_few (G d) (among d) i q l false kept_form end_form) after_typed))
 
   -- Before the calls there are the memories m and n; the procedures end in h and k, with one result, where all that is the module's own is
   -- the same.
@@ -253,15 +256,15 @@ module _ (b : Context) (ls rs : List TypedName) (R : Ty) (W V : List TypedVariab
     -- the writes of a side
     abbrev Returned : Bool → Bool → Readable → Side → (Memory → Memory) → Changes → Type 0
     Returned l d P r change cs =
-        IsReturned b ls rs R R (with_owner d a W) V (left_in d) right_globals finite finite xs ys left_takes right_takes left_few right_few g fits j fair s fit m n h k T U left_differs right_differs
+        IsReturned b ls rs R R (with_owner d a W) V (left_in d) right_globals finite finite xs ys left_takes right_takes left_few right_few (G d) (among d) g fits j fair s fit m n h k T U left_differs right_differs
         result result result_has result_has left_read right_read l false P r change cs
 
     left_returns : (l d : Bool) (P : Readable) → AllByRecursion (λ x. IsAlone g x (P side.Left)) xs → Returned l d P side.Left (ended l xs) (left_side_of l (left_outcome d) (length (G d)))
     left_returns true d P alone =
-        left_returned b ls rs R R (with_owner d a W) V (left_in d) right_globals finite finite xs ys left_takes right_takes left_few right_few g fits j fair s fit m n h k T U left_differs right_differs
+        left_returned b ls rs R R (with_owner d a W) V (left_in d) right_globals finite finite xs ys left_takes right_takes left_few right_few (G d) (among d) g fits j fair s fit m n h k T U left_differs right_differs
         result result result_has result_has left_read right_read P true false alone
     left_returns false d P alone =
-        left_returned b ls rs R R (with_owner d a W) V (left_in d) right_globals finite finite xs ys left_takes right_takes left_few right_few g fits j fair s fit m n h k T U left_differs right_differs
+        left_returned b ls rs R R (with_owner d a W) V (left_in d) right_globals finite finite xs ys left_takes right_takes left_few right_few (G d) (among d) g fits j fair s fit m n h k T U left_differs right_differs
         result result result_has result_has left_read right_read P false false alone
 
     abbrev given : Bool → Bool → Term → Value
@@ -364,7 +367,7 @@ module _ (b : Context) (ls rs : List TypedName) (R : Ty) (W V : List TypedVariab
           (left_covers : Covers g l (P side.Left) xs T (with_owner d a W)) (right_covers : Covers g l (P side.Right) ys U (with_owner d a V)) where
         after_is : den g j (after_of l d q) (here l d) ≡ den g j q (between s (assigned g.types left_base xs result) (assigned g.types right_base ys result))
         after_is =
-            returned_means b ls rs R R (with_owner d a W) V (left_in d) right_globals finite finite xs ys left_takes right_takes left_few right_few g fits j fair s fit m n h k T U left_differs right_differs
+            returned_means b ls rs R R (with_owner d a W) V (left_in d) right_globals finite finite xs ys left_takes right_takes left_few right_few (G d) (among d) g fits j fair s fit m n h k T U left_differs right_differs
             result result result_has result_has left_read right_read P left_alone (owner_alone d (P side.Right) right_alone).1 left_targets right_targets globals_alone
             l false (ended l xs) (λ z. ended l ys (with_own d z)) (left_side_of l (left_outcome d) (length (G d))) (right_changes l d)
             (left_returns l d P left_targets) (right_returns l d P right_targets (owner_alone d (P side.Right) right_alone).0)
@@ -377,9 +380,9 @@ module _ (b : Context) (ls rs : List TypedName) (R : Ty) (W V : List TypedVariab
             sym after_is
             ∙ implies_use g j (said_of l d i) (after_of l d q) (here l d)
             (all_true b None (Some ls) (Some rs) g fits_here j fair v (all l d) s.bound
-            (values_have b ls rs R R (with_owner d a W) V (left_in d) right_globals finite finite xs ys left_takes right_takes left_few right_few g fits j fair s fit m n h k T U left_differs right_differs
+            (values_have b ls rs R R (with_owner d a W) V (left_in d) right_globals finite finite xs ys left_takes right_takes left_few right_few (G d) (among d) g fits j fair s fit m n h k T U left_differs right_differs
             result result result_has result_has left_read right_read l false)
             (implies_form (said_of l d i) (after_of l d q)) (between s m n) (ap (λ f. den g j f (between s m n)) (sym (form_is l d i q)) ∙ holds))
-            (said_means b ls rs R R (with_owner d a W) V (left_in d) right_globals finite finite xs ys left_takes right_takes left_few right_few i q l false kept_form end_form
+            (said_means b ls rs R R (with_owner d a W) V (left_in d) right_globals finite finite xs ys left_takes right_takes left_few right_few (G d) (among d) i q l false kept_form end_form
             g fits j fair s fit m n h k T U left_differs right_differs result result result_has result_has left_read right_read Q kept_within kept_alone left_kept right_kept left_kept_alone right_kept_alone
             ∙ kept)

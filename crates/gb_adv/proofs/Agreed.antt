@@ -79,6 +79,10 @@ module _ (g : Setting) (j : Judge) (s : State) (m n : Memory) where
   led_make [] f k h = h
   led_make (e ∷ es) f k h = and_make g j (and_each e es) f here (each_make e es k.0 k.1) h
 
+  pub followed_make : (f : Term) (es : List Term) → Is f → AllAre es → Is (followed_by f es)
+  followed_make f [] h k = h
+  followed_make f (e ∷ es) h k = and_make g j f (and_each e es) here h (each_make e es k.0 k.1)
+
   pub followed_use : (f : Term) (es : List Term) → Is (followed_by f es) → Is f × AllAre es
   followed_use f [] h = (h, tt)
   followed_use f (e ∷ es) h =

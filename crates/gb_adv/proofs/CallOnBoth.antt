@@ -58,6 +58,7 @@ use Rattle.gb_typing.proofs.Variables.{variable_finite}
 use Rattle.gb_adversaries.proofs.KeptOff.{kept_off}
 use Rattle.gb_adversaries.proofs.Signatures.{type_variables}
 use Rattle.gb_adversaries.proofs.There.{abstract_there}
+use Rattle.gb_prog.specs.AllValues.{in_memory}
 use Rattle.gb_prog.specs.Writes.{AreIn, TypedVariable, variables}
 use Rattle.gb_prog.proofs.Couplings.{runs_sequence}
 use Rattle.gb_prog.proofs.AssignedForms.{in_both}
@@ -317,7 +318,7 @@ module _ (ds : Declarations) (scoped : IsTypedScope (declared ds)) (t : Sequent)
                 (after_returns_means c ls rs R W V left_are.1 right_are.1 finite k.call.targets l.call.targets left_takes right_takes left_few right_few a owned
                 g fits_there j fair v state_there m n h e (var.Glob a ∷ T) (var.Glob a ∷ U) x.left.1 x.right.1 (result_in h) x.left.0.0 x.left.0.1 (x.right.0.1 ∙ sym results_same) x.own
                 i q b d kept_form end_form Q kept_within
-                (results_alone g Q b false k.call.targets l.call.targets R R (with_owner d a W) V (both_alone g Q (with_owner d a W) V left_own right_own))
+                (results_alone g Q b false k.call.targets l.call.targets R R (with_owner d a W) V (in_memory side.Left (with_owner d a W) ++ in_memory side.Right V) (both_alone g Q (with_owner d a W) V left_own right_own))
                 (kept_covers side.Left tt k.call.targets T a i q W left_are.0 b d (exclusions ds) apart.left_read left_occurs g off (Q side.Left) left_kept left_kept_read)
                 (kept_covers_without side.Right tt l.call.targets U a i q V right_are.0 b d (exclusions ds) apart.right_read right_occurs g off (Q side.Right) right_kept right_kept_read off_owner)
                 left_own right_own P end_within left_alone right_alone

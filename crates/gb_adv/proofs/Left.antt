@@ -49,7 +49,7 @@ pub none_meets : (es : Exclusions) (a : Name) (ys : List Var) → meeting es a y
 none_meets es a ys e =
     (nothing_filtered (clashes es (var.Glob a)) ys [] (ap (λ (l : List Var). l ++ []) (nothing_least (filter (clashes es (var.Glob a)) ys) e))).0
 
-apart_of : (P : Var → Bool) (xs ys : List Var) → AllFalse P (xs ++ ys) → AllFalse P xs × AllFalse P ys
+pub apart_of : (P : Var → Bool) (xs ys : List Var) → AllFalse P (xs ++ ys) → AllFalse P xs × AllFalse P ys
 apart_of P [] ys h = (tt, h)
 apart_of P (x ∷ xs) ys h = let z = apart_of P xs ys h.1 in ((h.0, z.0), z.1)
 

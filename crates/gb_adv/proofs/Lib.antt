@@ -27,3 +27,9 @@ pub mod Related
 pub mod ReturnSteps
 pub mod RulesAreSound
 pub mod SideConditions
+pub mod UntilKept
+pub mod UntilCalls
+pub mod UntilForms
+pub mod UntilGoals
+pub mod UntilOnBoth
+pub mod UntilIsSound

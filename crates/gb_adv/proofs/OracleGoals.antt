@@ -35,7 +35,7 @@ use Rattle.gb_adv.proofs.AskedTypes.{AreAlike}
 use Rattle.gb_adv.proofs.EquationsTyped.{led_typed, own_types, params_typed, result_typed}
 use Rattle.gb_adv.proofs.KeptForms.{over_both_locals, over_locals}
 
-abbrev given_list : Answer (List Goal) → List Goal
+abbrev pub given_list : Answer (List Goal) → List Goal
 given_list (given Gs) = Gs
 given_list (refused why place) = []
 
@@ -77,23 +77,23 @@ first_known ds [] h = tt
 first_known ds (o ∷ os) h = ((let x = h.0 in (x.left, x.left_known)), first_known ds os h.1)
 
 -- two types of procedures that are the same but for names
-abbrev HaveOneType : ProcedureType → ProcedureType → Type 0
+abbrev pub HaveOneType : ProcedureType → ProcedureType → Type 0
 HaveOneType t u = (have_same_types t.params u.params ≡ true) × (t.result ≡ u.result) × HaveVariableTypes t.params × IsVariableType t.result
 
-have_one_type : (ds : Declarations) (o p : ProcRef) → AreAlike ds o p → (t u : ProcedureType) → procedure_type ds None o ≡ Some t → procedure_type ds None p ≡ Some u → HaveOneType t u
+pub have_one_type : (ds : Declarations) (o p : ProcRef) → AreAlike ds o p → (t u : ProcedureType) → procedure_type ds None o ≡ Some t → procedure_type ds None p ≡ Some u → HaveOneType t u
 have_one_type ds o p x t u e f =
     subst (λ z. z) (λ i. HaveOneType (same_Some x.left t (sym x.left_known ∙ e) i) (same_Some x.right u (sym x.right_known ∙ f) i)) (x.params, x.result, x.variables.0, x.variables.1)
 
 module _ (ds : Declarations) (c : Context) (knows : (o : ProcRef) (t : ProcedureType) → procedure_type ds None o ≡ Some t → procedure c o ≡ Some t) (i : Term) where
-  is_there : (o : ProcRef) (t : ProcedureType) → procedure_type ds None o ≡ Some t → IsThere (procedure c o)
+  pub is_there : (o : ProcRef) (t : ProcedureType) → procedure_type ds None o ≡ Some t → IsThere (procedure c o)
   is_there o t e = subst IsThere (sym (knows o t e)) tt
 
-  abbrev result_of : ProcedureType → List TypedName
+  abbrev pub result_of : ProcedureType → List TypedName
   result_of t = record { name = result_name; ty = t.result } ∷ []
 
   -- on one program
   module _ (w : IsForm (with_own c (Some [])) i) where
-    keeps_typed : (o : ProcRef) (t : ProcedureType) → procedure_type ds None o ≡ Some t → IsTypedGoal c (keeps i o)
+    pub keeps_typed : (o : ProcRef) (t : ProcedureType) → procedure_type ds None o ≡ Some t → IsTypedGoal c (keeps i o)
     keeps_typed o t e = (
       [],
       [],

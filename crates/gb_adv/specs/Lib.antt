@@ -6,3 +6,4 @@ pub mod OwnNames
 pub mod Proc
 pub mod Returns
 pub mod Rows
+pub mod Until

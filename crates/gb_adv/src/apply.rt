@@ -6,6 +6,7 @@ ghost use Rattle.gb_adv.specs.Rows.{abstract_row};
 
 use crate::call::call;
 use crate::procedures::proc;
+use crate::until::call_until;
 use gb_core::place::Place;
 use gb_core::refusal::Refused;
 use gb_goal::scope::Scope;
@@ -25,6 +26,7 @@ fn answer(
 {
     match rule {
         AbstractRule::Call(kept) => call(alloc, goal, kept, scope),
+        AbstractRule::CallUntil(until) => call_until(alloc, goal, until, scope),
         AbstractRule::Proc(kept) => proc(alloc, goal, kept, scope),
     }
 }

@@ -9,3 +9,4 @@ pub mod laws;
 pub mod oracles;
 pub mod procedures;
 pub mod returns;
+pub mod until;

@@ -1,14 +1,16 @@
 //! What oracles of procedures of abstract modules are to keep, and what they write.
 
-ghost use Rattle.std.specs.Prelude.{◌≡◌, ◌++◌, map, filter, IfOk, IfSome};
+ghost use Rattle.std.specs.Prelude.{◌≡◌, ◌++◌, ◌∷◌, Some, map, filter, IfOk, IfSome};
 ghost use Rattle.std.specs.Option.{option_copied, option_map};
 ghost use Rattle.gb_goal.specs.Answers.{Answers};
 ghost use Rattle.gb_goal.specs.Goal.{form_of};
 ghost use Rattle.gb_goal.specs.Interfaces.{procedure_type};
 ghost use Rattle.gb_goal.specs.Rows.{concluding, each_concluding};
 ghost use Rattle.gb_goal.specs.Seen.{typed};
+ghost use Rattle.gb_mods.specs.Written.{written_if};
 ghost use Rattle.gb_walk.specs.Clash.{clashes, least_from, variables_read};
 ghost use Rattle.gb_adv.specs.Oracles.{each_keep_both, each_keeps, keep_both, keeps, meeting, meeting_both, writes_of};
+ghost use Rattle.gb_adv.specs.Equations.{led_by, same_params};
 ghost use Rattle.gb_adv.specs.OwnNames.{own_names};
 
 use crate::equations::{led_by, owner_variable, same_params, same_result};
@@ -48,7 +50,7 @@ pub struct Keeping<'a> {
 }
 
 /// An oracle keeps a form.
-fn keeps(alloc: Global, kept: &Form, oracle: &Shared<ProcRef>) -> Result<Form, AllocError>
+pub fn keeps(alloc: Global, kept: &Form, oracle: &Shared<ProcRef>) -> Result<Form, AllocError>
     ensures { IfOk result (λ made. made ≡ form_of (keeps kept.now oracle.now)) }
 {
     let subject = Subject::Proc(oracle.share()?);
@@ -83,18 +85,31 @@ pub fn own_names(params: &[TypedName]) -> bool
 
 /// An oracle with its type.
 #[derive(Clone, Copy)]
-struct Oracle<'a> {
-    procedure: &'a Shared<ProcRef>,
-    ty: ProcedureType<'a>,
+pub struct Oracle<'a> {
+    pub procedure: &'a Shared<ProcRef>,
+    pub ty: ProcedureType<'a>,
 }
 
 /// An oracle, with its type, if it has one.
-fn typed_oracle<'a>(scope: &'a Scope, procedure: &'a Shared<ProcRef>) -> Option<Oracle<'a>>
+pub fn typed_oracle<'a>(scope: &'a Scope, procedure: &'a Shared<ProcRef>) -> Option<Oracle<'a>>
     ensures procedures { IfSome result (λ o. o.procedure.now ≡ procedure.now) }
     ensures types { option_map (λ o. typed o.ty) result ≡ procedure_type scope.now None procedure.now }
 {
     let ty = procedure_type(scope, None, procedure.get())?;
     Some(Oracle { procedure, ty })
+}
+
+/// The parameters of two procedures are the same, and the form holds.
+fn from_equal(
+    alloc: Global,
+    kept: &Form,
+    left: &[TypedName],
+    right: &[TypedName],
+) -> Result<Form, AllocError>
+    ensures { IfOk result (λ made. made ≡ led_by (same_params left.now right.now) kept.now) }
+{
+    let equal = same_params(alloc, Items::new(alloc), left, right)?;
+    led_by(alloc, equal.as_slice(), kept.share()?)
 }
 
 /// An oracle on either side: from equal arguments, where the form holds, they give equal results, and the form holds.
@@ -106,13 +121,28 @@ fn keep_both(
 ) -> Result<Form, AllocError>
     ensures { IfOk result (λ made. made ≡ form_of (keep_both kept.now left.now.procedure.now (typed left.now.ty) right.now.procedure.now (typed right.now.ty))) }
 {
-    let equal = same_params(alloc, Items::new(alloc), left.ty.params, right.ty.params)?;
-    let pre = led_by(alloc, equal.as_slice(), kept.share()?)?;
+    let pre = from_equal(alloc, kept, left.ty.params, right.ty.params)?;
     let results = same_result(alloc, left.ty.result)?;
     let post = conjunction(alloc, results, kept.share()?)?;
-    let first = Subject::Proc(left.procedure.share()?);
-    let second = Subject::Proc(right.procedure.share()?);
+    let left = left.procedure.share()?;
+    let right = right.procedure.share()?;
+    let (first, second) = (Subject::Proc(left), Subject::Proc(right));
     equiv_of(alloc, &first, &second, pre, post)
+}
+
+/// The goal of an oracle on either side, in front of others.
+fn with_both(
+    alloc: Global,
+    keeping: &Keeping<'_>,
+    left: &Oracle<'_>,
+    right: &Oracle<'_>,
+    others: Sequents,
+) -> Result<Sequents, AllocError>
+    ensures { IfOk result (λ goals. goals ≡
+        concluding keeping.now.goal.now (keep_both keeping.now.kept.now left.now.procedure.now (typed left.now.ty) right.now.procedure.now (typed right.now.ty)) ∷ others) }
+{
+    let first = keep_both(alloc, keeping.kept, left, right)?;
+    in_front(alloc, keeping.goal, first, others)
 }
 
 /// One goal for each oracle, in order, of both sides. Refused with `Shape` where two parameters of one of them have the same name.
@@ -139,8 +169,7 @@ pub fn each_keep_both(
                     return Err(no_shape());
                 }
                 let others = each_keep_both(alloc, keeping, left, right)?;
-                let first = keep_both(alloc, keeping.kept, &here, &there)?;
-                Ok(in_front(alloc, keeping.goal, first, others)?)
+                Ok(with_both(alloc, keeping, &here, &there, others)?)
             }
         },
     }
@@ -157,6 +186,21 @@ fn shared(alloc: Global, list: &[Shared<ProcRef>]) -> Result<Procedures, AllocEr
     Ok(all)
 }
 
+/// What procedures write, in order. None where it isn't known.
+fn all_written(
+    alloc: Global,
+    scope: &Scope,
+    list: &[Shared<ProcRef>],
+) -> Result<Option<Vars>, AllocError>
+    ensures { IfOk result (λ made. made ≡ written_if scope.now (Some list.now)) }
+{
+    let Some(found) = written_by(alloc, scope, list)? else {
+        return Ok(None);
+    };
+    let ordered = joined(alloc, found.as_slice(), Items::new(alloc))?;
+    Ok(Some(ordered))
+}
+
 /// What oracles write, through every procedure that they call, in order. None where it isn't known.
 #[tactic(auto, unfolding(crate::specs::Oracles::writes_of))]
 pub fn writes_of(
@@ -169,11 +213,7 @@ pub fn writes_of(
     let Some(all) = all_reached(alloc, scope, shared(alloc, oracles)?)? else {
         return Ok(None);
     };
-    let Some(found) = written_by(alloc, scope, all.as_slice())? else {
-        return Ok(None);
-    };
-    let ordered = joined(alloc, found.as_slice(), Items::new(alloc))?;
-    Ok(Some(ordered))
+    all_written(alloc, scope, all.as_slice())
 }
 
 /// The lesser of what was found before and the least of these variables that clashes with all that is a module's own.
@@ -233,6 +273,20 @@ pub fn meeting(
     meeting_of(alloc, exclusions, module, &[], read.as_slice())
 }
 
+/// The same of what a form reads in two memories.
+fn meeting_read(
+    alloc: Global,
+    exclusions: &[Excluded],
+    module: &Name,
+    kept: &Form,
+) -> Result<Option<Var>, AllocError>
+    ensures { IfOk result (λ made. made ≡ meeting exclusions.now «module».now (variables_read Side.Left kept.now ++ variables_read Side.Right kept.now)) }
+{
+    let here = variables_read(alloc, kept, Side::Left)?;
+    let there = variables_read(alloc, kept, Side::Right)?;
+    meeting_of(alloc, exclusions, module, here.as_slice(), there.as_slice())
+}
+
 /// The same of what a form reads in two memories, and if there is none, of what oracles write on either side.
 pub fn meeting_both(
     alloc: Global,
@@ -244,9 +298,7 @@ pub fn meeting_both(
 ) -> Result<Option<Var>, AllocError>
     ensures { IfOk result (λ made. made ≡ meeting_both exclusions.now «module».now kept.now left.now right.now) }
 {
-    let here = variables_read(alloc, kept, Side::Left)?;
-    let there = variables_read(alloc, kept, Side::Right)?;
-    let read = meeting_of(alloc, exclusions, module, here.as_slice(), there.as_slice())?;
+    let read = meeting_read(alloc, exclusions, module, kept)?;
     if read.is_some() {
         return Ok(read);
     }

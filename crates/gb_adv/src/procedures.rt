@@ -1,9 +1,12 @@
 //! The rule on procedures of abstract modules, by what their oracles keep.
 
-ghost use Rattle.std.specs.Prelude.{◌≡◌, Some, map, IfOk};
+ghost use Rattle.std.specs.Prelude.{◌≡◌, [], ◌∷◌, Some, map, IfOk};
 ghost use Rattle.gb_goal.specs.Answers.{Answers};
+ghost use Rattle.gb_goal.specs.Goal.{form_of};
 ghost use Rattle.gb_goal.specs.Rows.{answered, concluding, each_concluding};
+ghost use Rattle.gb_bodies.specs.Conseq.{pair_leads};
 ghost use Rattle.gb_adv.specs.Abstract.{abstract_procedure, procedure_seen};
+ghost use Rattle.gb_adv.specs.Oracles.{writes_of};
 ghost use Rattle.gb_adv.specs.Proc.{both_goals, by_writes, end_alike, on_both, on_one, one_goals, proc_row, start_alike};
 
 use crate::abstract_call::{AbstractProcedure, any_one};
@@ -53,6 +56,47 @@ fn end_alike(
     conjunction(alloc, holds, same_owner(alloc, procedure.owner)?)
 }
 
+/// The precondition leads to where the procedures may start.
+fn leads_in(
+    alloc: Global,
+    keeping: &Keeping<'_>,
+    left: &AbstractProcedure<'_>,
+    right: &AbstractProcedure<'_>,
+) -> Result<Form, AllocError>
+    ensures { IfOk result (λ made. made ≡ form_of (pair_leads keeping.now.pre.now (start_alike (procedure_seen left.now) (procedure_seen right.now) keeping.now.kept.now))) }
+{
+    let start = start_alike(alloc, left, right, keeping.kept)?;
+    pair_leads(alloc, keeping.pre, &start)
+}
+
+/// Where the procedures end leads to the postcondition.
+fn leads_out(
+    alloc: Global,
+    keeping: &Keeping<'_>,
+    procedure: &AbstractProcedure<'_>,
+) -> Result<Form, AllocError>
+    ensures { IfOk result (λ made. made ≡ form_of (pair_leads (end_alike (procedure_seen procedure.now) keeping.now.kept.now) keeping.now.post.now)) }
+{
+    let end = end_alike(alloc, procedure, keeping.kept)?;
+    pair_leads(alloc, &end, keeping.post)
+}
+
+/// The conditions lead to where the procedures may start, and from where they end.
+fn conditions(
+    alloc: Global,
+    keeping: &Keeping<'_>,
+    left: &AbstractProcedure<'_>,
+    right: &AbstractProcedure<'_>,
+) -> Result<Sequents, AllocError>
+    ensures { IfOk result (λ goals. goals ≡ map (concluding keeping.now.goal.now)
+        (pair_leads keeping.now.pre.now (start_alike (procedure_seen left.now) (procedure_seen right.now) keeping.now.kept.now)
+        ∷ pair_leads (end_alike (procedure_seen left.now) keeping.now.kept.now) keeping.now.post.now ∷ [])) }
+{
+    let first = leads_in(alloc, keeping, left, right)?;
+    let second = leads_out(alloc, keeping, left)?;
+    two_goals(alloc, keeping.goal, first, second)
+}
+
 /// The oracles keep the form, and the conditions lead to where the procedures may start, and from where they end.
 #[tactic(auto, using(crate::proofs::OracleSteps::refused_behind))]
 fn both_goals(
@@ -64,12 +108,9 @@ fn both_goals(
     ensures { Answers (each_concluding keeping.now.goal.now (both_goals keeping.now.scope.now (procedure_seen left.now) (procedure_seen right.now)
         keeping.now.kept.now keeping.now.pre.now keeping.now.post.now)) result }
 {
+    let last = conditions(alloc, keeping, left, right)?;
     let mut goals = each_keep_both(alloc, keeping, left.oracles, right.oracles)?;
-    let start = start_alike(alloc, left, right, keeping.kept)?;
-    let end = end_alike(alloc, left, keeping.kept)?;
-    let first = pair_leads(alloc, keeping.pre, &start)?;
-    let second = pair_leads(alloc, &end, keeping.post)?;
-    goals.append(two_goals(alloc, keeping.goal, first, second)?)?;
+    goals.append(last)?;
     Ok(goals)
 }
 
@@ -94,6 +135,47 @@ fn by_writes(
     both_goals(alloc, keeping, left, right)
 }
 
+/// The goals of two procedures of abstract modules, by what their oracles write.
+fn by_oracles(
+    alloc: Global,
+    keeping: &Keeping<'_>,
+    left: &AbstractProcedure<'_>,
+    right: &AbstractProcedure<'_>,
+) -> Result<Sequents, Refused>
+    ensures { Answers (each_concluding keeping.now.goal.now (by_writes keeping.now.scope.now (procedure_seen left.now) (procedure_seen right.now)
+        keeping.now.kept.now keeping.now.pre.now keeping.now.post.now
+        (writes_of keeping.now.scope.now (procedure_seen left.now).oracles) (writes_of keeping.now.scope.now (procedure_seen right.now).oracles))) result }
+{
+    let Some(written) = writes_of(alloc, keeping.scope, left.oracles)? else {
+        return Err(no_shape());
+    };
+    let Some(others) = writes_of(alloc, keeping.scope, right.oracles)? else {
+        return Err(no_shape());
+    };
+    let (written, others) = (written.as_slice(), others.as_slice());
+    by_writes(alloc, keeping, left, written, right, others)
+}
+
+/// The goals of two procedures, the left one of which is of an abstract module.
+fn beside(
+    alloc: Global,
+    keeping: &Keeping<'_>,
+    left: &AbstractProcedure<'_>,
+    right: &ProcRef,
+) -> Result<Sequents, Refused>
+    ensures { Answers (each_concluding keeping.now.goal.now (on_both keeping.now.scope.now keeping.now.kept.now keeping.now.pre.now keeping.now.post.now
+        (Some (procedure_seen left.now)) (abstract_procedure keeping.now.scope.now right.now))) result }
+{
+    let meant = meant_by(alloc, keeping.scope, right)?;
+    let Some(right) = any_one(keeping.scope, right, &meant) else {
+        return Err(no_shape());
+    };
+    if !left.is_same(&right) || !own_names(left.ty.params) {
+        return Err(no_shape());
+    }
+    by_oracles(alloc, keeping, left, &right)
+}
+
 /// The goals of two procedures.
 fn on_both(
     alloc: Global,
@@ -104,26 +186,11 @@ fn on_both(
     ensures { Answers (each_concluding keeping.now.goal.now (on_both keeping.now.scope.now keeping.now.kept.now keeping.now.pre.now keeping.now.post.now
         (abstract_procedure keeping.now.scope.now left.now) (abstract_procedure keeping.now.scope.now right.now))) result }
 {
-    let scope = keeping.scope;
-    let here = meant_by(alloc, scope, left)?;
-    let there = meant_by(alloc, scope, right)?;
-    let Some(left) = any_one(scope, left, &here) else {
+    let meant = meant_by(alloc, keeping.scope, left)?;
+    let Some(left) = any_one(keeping.scope, left, &meant) else {
         return Err(no_shape());
     };
-    let Some(right) = any_one(scope, right, &there) else {
-        return Err(no_shape());
-    };
-    if !left.is_same(&right) || !own_names(left.ty.params) {
-        return Err(no_shape());
-    }
-    let Some(written) = writes_of(alloc, scope, left.oracles)? else {
-        return Err(no_shape());
-    };
-    let Some(others) = writes_of(alloc, scope, right.oracles)? else {
-        return Err(no_shape());
-    };
-    let (written, others) = (written.as_slice(), others.as_slice());
-    by_writes(alloc, keeping, &left, written, &right, others)
+    beside(alloc, keeping, &left, right)
 }
 
 /// The oracles keep the form, and the conditions lead to it, and from it.
@@ -135,10 +202,11 @@ fn one_goals(
 ) -> Result<Sequents, AllocError>
     ensures { IfOk result (λ goals. goals ≡ map (concluding keeping.now.goal.now) (one_goals (procedure_seen procedure.now) keeping.now.kept.now keeping.now.pre.now keeping.now.post.now)) }
 {
-    let mut goals = each_keeps(alloc, keeping, procedure.oracles)?;
     let first = leads(alloc, keeping.pre, keeping.kept)?;
     let second = leads(alloc, keeping.kept, keeping.post)?;
-    goals.append(two_goals(alloc, keeping.goal, first, second)?)?;
+    let last = two_goals(alloc, keeping.goal, first, second)?;
+    let mut goals = each_keeps(alloc, keeping, procedure.oracles)?;
+    goals.append(last)?;
     Ok(goals)
 }
 

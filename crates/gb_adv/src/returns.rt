@@ -1,12 +1,12 @@
 //! What is said before two calls of one procedure of an abstract module of what is to hold after both.
 
-ghost use Rattle.std.specs.Prelude.{◌≡◌, ◌++◌, ◌||◌, map, IfOk};
+ghost use Rattle.std.specs.Prelude.{◌≡◌, ◌++◌, ◌||◌, length, map, IfOk};
 ghost use Rattle.std.specs.List.{list_any};
 ghost use Rattle.gb_core.specs.declared.var.Var.TheVariants.{Glob as Whole, Local};
 ghost use Rattle.gb_meaning.specs.Memory.{result_name};
 ghost use Rattle.gb_walk.specs.Clash.{variables_read};
 ghost use Rattle.gb_call.specs.Outcomes.{is_among, outcome_seen};
-ghost use Rattle.gb_call_both.specs.BothOutcomes.{bound_seen, left_side_of};
+ghost use Rattle.gb_call_both.specs.BothOutcomes.{bound_seen, globals_of, left_side_of};
 ghost use Rattle.gb_adv.specs.Returns.{after_calls, after_where, inside_result, of_returns, owner_changes, owner_of, returns_seen, values};
 
 use crate::equations::{owner_ty, owner_variable};
@@ -108,6 +108,15 @@ fn with_owner_changes(
     Ok(changes)
 }
 
+/// How many globals the oracles write that are read.
+#[tactic(auto, using(gb_call_both::proofs::BothSteps::seen_length))]
+fn count_written(alloc: Global, returns: &Returns<'_>) -> Result<usize, AllocError>
+    ensures { IfOk result (λ count. count ≡ length (globals_of (outcome_seen returns.now.left) (outcome_seen returns.now.right))) }
+{
+    let all = globals_of(alloc, Items::new(alloc), &returns.left, &returns.right)?;
+    Ok(all.len())
+}
+
 /// What is said after the calls, of the bound values.
 #[tactic(auto, using(gb_call_both::proofs::BothSteps::seen_length))]
 fn of_returns(
@@ -118,10 +127,10 @@ fn of_returns(
 ) -> Result<Form, AllocError>
     ensures { IfOk result (λ made. made ≡ of_returns occur.0 occur.1 (returns_seen returns.now) form.now) }
 {
+    let written = count_written(alloc, returns)?;
     let inside = inside_result(alloc, Items::new(alloc), occur.1, returns)?;
-    let writes = globals_of(alloc, Items::new(alloc), &returns.left, &returns.right)?;
     let changes = result_changes(alloc, occur.0, returns, inside.len())?;
-    let changes = with_owner_changes(alloc, changes, occur.1, returns.owner, writes.len())?;
+    let changes = with_owner_changes(alloc, changes, occur.1, returns.owner, written)?;
     let changes = to_bound_values(alloc, changes, inside.as_slice())?;
     changed(alloc, form, changes.as_slice())
 }

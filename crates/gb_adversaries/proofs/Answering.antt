@@ -29,17 +29,17 @@ every_any [] = tt
 every_any (e ∷ l) = (tt, every_any l)
 
 -- the outcome holds in each of these globals what it held
-abbrev Held : Map → List Global → Memory → Type 0
+abbrev pub Held : Map → List Global → Memory → Type 0
 Held G gs a = AllByRecursion (λ x. get a.globals (x.parent ∷ x.name ∷ []) ≡ get G (x.parent ∷ x.name ∷ [])) gs
 
 module _ (g : Setting) where
-  held : (r : Routine) (vs : List Value) (G : Map) (gs : List Global) → AllByRecursion (λ x. UnwrittenBy g r (key_of_global x)) gs → Every (Held G gs) (outcomes g r vs G)
+  pub held : (r : Routine) (vs : List Value) (G : Map) (gs : List Global) → AllByRecursion (λ x. UnwrittenBy g r (key_of_global x)) gs → Every (Held G gs) (outcomes g r vs G)
   held r vs G [] u = every_any (outcomes g r vs G)
   held r vs G (x ∷ gs) u =
       every_both (λ a. get a.globals (x.parent ∷ x.name ∷ []) ≡ get G (x.parent ∷ x.name ∷ [])) (Held G gs) (outcomes g r vs G)
       (routine_leaves g r (x.parent ∷ x.name ∷ []) u.0 vs G) (held r vs G gs u.1)
 
-  reads_held : (G H : Map) (a b : Memory) (gs : List Global) → AtEach (ReadsSame g.types G H) gs → Held G gs a → Held H gs b → AtEach (ReadsSame g.types a.globals b.globals) gs
+  pub reads_held : (G H : Map) (a b : Memory) (gs : List Global) → AtEach (ReadsSame g.types G H) gs → Held G gs a → Held H gs b → AtEach (ReadsSame g.types a.globals b.globals) gs
   reads_held G H a b [] e h k = tt
   reads_held G H a b (x ∷ gs) e h k =
       (ap (fit g.types x.ty) h.0 ∙ e.0 ∙ sym (ap (fit g.types x.ty) k.0), reads_held G H a b gs e.1 h.1 k.1)

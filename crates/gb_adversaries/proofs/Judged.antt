@@ -37,9 +37,10 @@ use Rattle.gb_prog.specs.Calls.{called_from}
 use Rattle.gb_prog.proofs.Calls.{called_outcomes}
 use Rattle.gb_prog.proofs.Turns.{every_both}
 use Rattle.gb_adversaries.specs.Coupled.{SameResult, AreCoupled}
-use Rattle.gb_adversaries.specs.Judged.{IsFor, HasOwnNames, AreJudgedAlike, IsJudgedToKeep}
+use Rattle.gb_adversaries.specs.Judged.{IsFor, HasOwnNames, AreJudgedAlike, IsJudgedToKeep, AreJudgedUntil}
 use Rattle.gb_adversaries.specs.KeptProperty.{Keeps}
 use Rattle.gb_adversaries.proofs.Answering.{every_any}
+use Rattle.gb_adversaries.specs.Until.{AreCoupledUntil, Until}
 
 -- the frame of an outcome is its result
 abbrev pub IsFramed : Memory → Type 0
@@ -147,6 +148,28 @@ module _ (g : Setting) (s : Signature) where
       start : Coupling J (outcomes g r vs G) (routine_denominator g r) (outcomes g q vs H) (routine_denominator g q)
       start = subst (λ z. z) (λ i. Coupling J (left i) (routine_denominator g r) (right i) (routine_denominator g q))
           (judged (called_from r vs G) (called_from q vs H) (held r w l vs h G ∙ sym (held q k n vs h H)) related)
+
+  pub judged_until : (gs : List Global) (B : Map → Bool) (R : Map → Map → Bool) (r q : Routine) → IsFor g s r → IsFor g s q → HasOwnNames r → HasOwnNames q → AreJudgedUntil g B R s.result r q → AreCoupledUntil g gs B R s r q
+  judged_until gs B R r q w k l n judged vs h G H own event related =
+      coupling_weakening {Q = λ a b. Until B J a b × HasResult a × HasResult b} {R = Until B (SameResult R)} (λ a b z e. let y = z.0 e in (same_frames a b z.1 z.2 y.0, y.1))
+      (coupling_facts memory_discrete memory_discrete {Q = Until B J} {l1 = outcomes g r vs G} {k1 = routine_denominator g r} {l2 = outcomes g q vs H} {k2 = routine_denominator g q}
+      HasResult HasResult (routine_positive g r (draws r w)) (routine_positive g q (draws q k))
+      (On_of_Every HasResult (outcomes g r vs G) (routine_entries g r (draws r w) vs G) (results r w vs G))
+      (On_of_Every HasResult (outcomes g q vs H) (routine_entries g q (draws q k) vs H) (results q k vs H))
+      start)
+    where
+      J : Memory → Memory → Type 0
+      J a b = (read_local g.types a result_name s.result ≡ read_local g.types b result_name s.result) × (R a.globals b.globals ≡ true)
+
+      left : from_frame g (Some r) (called_from r vs G) ≡ outcomes g r vs G
+      left = called_outcomes g r vs (valued_by r w vs h) G
+
+      right : from_frame g (Some q) (called_from q vs H) ≡ outcomes g q vs H
+      right = called_outcomes g q vs (valued_by q k vs h) H
+
+      start : Coupling (Until B J) (outcomes g r vs G) (routine_denominator g r) (outcomes g q vs H) (routine_denominator g q)
+      start = subst (λ z. z) (λ i. Coupling (Until B J) (left i) (routine_denominator g r) (right i) (routine_denominator g q))
+          (judged (called_from r vs G) (called_from q vs H) (held r w l vs h G ∙ sym (held q k n vs h H)) event related)
 
   pub judged_kept : (I : Map → Bool) (r : Routine) → IsFor g s r → IsJudgedToKeep g I r → Keeps g I s r
   judged_kept I r w judged vs h G i =

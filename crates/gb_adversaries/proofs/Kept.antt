@@ -1,5 +1,5 @@
 -- Procedures of abstract modules, by what their oracles keep.
-use Rattle.std.proofs.Common.{◌≡◌, inl, inr, Bool, true, List, [], ◌∷◌, Option, Some, None, sym, ◌∙◌, subst}
+use Rattle.std.proofs.Common.{◌≡◌, inl, inr, Bool, true, false, List, [], ◌∷◌, Option, Some, None, sym, ◌∙◌, subst}
 use Rattle.std.proofs.lemmas.Bool.{and_parts}
 use Rattle.std.proofs.lemmas.Option.{same_Some}
 use Rattle.std.specs.List.{AllByRecursion}
@@ -16,18 +16,21 @@ use Rattle.gb_meaning.specs.Names.{Name, Map}
 use Rattle.gb_meaning.specs.Program.{Routine}
 use Rattle.gb_meaning.specs.Runs.{outcomes, routine_denominator}
 use Rattle.gb_meaning.specs.Setting.{Setting}
+use Rattle.gb_meaning.specs.Sound.{FullRoutine}
 use Rattle.gb_meaning.specs.Values.{Global}
 use Rattle.gb_meaning.specs.Declared.{Signature}
 use Rattle.gb_meaning.specs.Linking.{link_routine}
 use Rattle.gb_meaning.specs.Programs.{IfThere}
 use Rattle.gb_adversaries.specs.BothAnyOf.{AreAnswers, AreBothAnyOf, EachPair, IsPairIn, Serves}
 use Rattle.gb_adversaries.specs.Coupled.{values_of, IsKept, Alike, AnswerAlike}
-use Rattle.gb_adversaries.specs.Judged.{IsFor, AreJudgedAlike}
+use Rattle.gb_adversaries.specs.Judged.{IsFor, AreJudgedAlike, AreJudgedUntil}
 use Rattle.gb_adversaries.specs.KeptProperty.{IsApartFrom, Keeps}
-use Rattle.gb_adversaries.proofs.Judged.{judged_coupled, judged_kept}
+use Rattle.gb_adversaries.proofs.Judged.{judged_coupled, judged_kept, judged_until}
 use Rattle.gb_adversaries.proofs.KeptRuns.{routine_keeps}
 use Rattle.gb_adversaries.proofs.Runs.{routine_coupled}
-use Rattle.gb_adversaries.specs.Kept.{IsThere, AreKeeping, IsKeeping}
+use Rattle.gb_adversaries.specs.Kept.{IsThere, AreKeeping, IsKeeping, AreKeepingUntil}
+use Rattle.gb_adversaries.specs.Until.{AnswerUntil, Until}
+use Rattle.gb_adversaries.proofs.UntilRuns.{routine_until}
 
 pair_in : (P : ProcRef → ProcRef → Type 0) (os ps : List ProcRef) → EachPair P os ps → (x y : ProcRef) → IsPairIn os ps x y → P x y
 pair_in P [] ps h x y i = absurd i
@@ -72,6 +75,34 @@ module _ (ds : Declarations) (g : Setting) where
       abstract_coupled kept r k e f vs G H own related =
           subst (λ z. z) (λ i. Coupling (Alike g.types gs R) (outcomes g (left_is i) vs G) (routine_denominator g (left_is i)) (outcomes g (right_is i) vs H) (routine_denominator g (right_is i)))
           (routine_coupled g b.callable R b.left b.right gs kept (λ o s h. answer_alike s (b.left o) (b.right o) (b.answers o s h)) b.own b.typed vs G H own related)
+        where
+          left_is : link_routine b.left b.own ≡ r
+          left_is = same_Some (link_routine b.left b.own) r (sym b.left_there ∙ e)
+
+          right_is : link_routine b.right b.own ≡ k
+          right_is = same_Some (link_routine b.right b.own) k (sym b.right_there ∙ f)
+
+    module _ (B : Map → Bool) (R : Map → Map → Bool) (each : EachPair (AreKeepingUntil ds g gs B R) os ps) where
+      answer_until : (s : Signature) (l r : Option Routine) → AreAnswers ds g os ps s l r → AnswerUntil g gs B R s l r
+      unfolding is_for pair_in
+      answer_until s l r w =
+          let k = pair_in (AreKeepingUntil ds g gs B R) os ps each w.first w.second w.paired in
+          let x = k.left in
+          let y = k.right in
+          subst (λ z. z) (λ i. AnswerUntil g gs B R s (sym (w.left_meant ∙ x.there) i) (sym (w.right_meant ∙ y.there) i)) (
+            (k.left_leaves, k.right_leaves),
+            judged_until g s gs B R x.means y.means (is_for s w.first x w.left_serves) (is_for s w.second y w.right_serves) k.left_names k.right_names
+                (subst (λ t. AreJudgedUntil g B R t x.means y.means) (let f = is_for s w.first x w.left_serves in f.result) k.judged),
+            judged_kept g s B y.means (is_for s w.second y w.right_serves) k.event,
+          )
+
+      pub abstract_until : IsKept gs R → IsApartFrom gs B → (r k : Routine) → g.procedure p ≡ Some r → g.procedure q ≡ Some k → FullRoutine g r → FullRoutine g k → (vs us : List Value) (G H : Map) →
+          (B H ≡ false → (vs ≡ us) × (values_of g.types gs G ≡ values_of g.types gs H) × (R G H ≡ true)) →
+          Coupling (Until B (Alike g.types gs R)) (outcomes g r vs G) (routine_denominator g r) (outcomes g k us H) (routine_denominator g k)
+      abstract_until kept apart r k e f left_full right_full vs us G H start =
+          subst (λ z. z) (λ i. Coupling (Until B (Alike g.types gs R)) (outcomes g (left_is i) vs G) (routine_denominator g (left_is i)) (outcomes g (right_is i) us H) (routine_denominator g (right_is i)))
+          (routine_until g b.callable B R b.left b.right gs kept apart (λ o s h. answer_until s (b.left o) (b.right o) (b.answers o s h)) b.own b.typed
+          (subst (FullRoutine g) (sym left_is) left_full) (subst (FullRoutine g) (sym right_is) right_full) vs us G H start)
         where
           left_is : link_routine b.left b.own ≡ r
           left_is = same_Some (link_routine b.left b.own) r (sym b.left_there ∙ e)

@@ -38,12 +38,12 @@ module _ (g : Setting) (ss : Oracle → Option Signature) (I : Map → Bool) (os
   Has m = I m.globals ≡ true
 
   module _ (names : Names) (apart : IsApartFrom names.globals I) (s : State) where
-    written : (x : Var) (u : Ty) → type_of names x ≡ Some u → (v : Value) (m n : Memory) → Has m → Has (write g.types m x v)
+    pub written : (x : Var) (u : Ty) → type_of names x ≡ Some u → (v : Value) (m n : Memory) → Has m → Has (write g.types m x v)
     written (var.Global p x) u e v m n h = at_place (λ q z. (v : Value) (G : Map) → I G ≡ true → I (set G q v) ≡ true) names.globals apart p x u e v m.globals h
     written (var.Local x) u e v m n h = h
     written (var.Glob b) u e v m n h = absurd (none-some u e)
 
-    taken : (xs : List Var) (u : Ty) → Takes names xs u → (v : Value) (m : Memory) → Has m → Has (assigned g.types m xs v)
+    pub taken : (xs : List Var) (u : Ty) → Takes names xs u → (v : Value) (m : Memory) → Has m → Has (assigned g.types m xs v)
     taken xs u w v m h = assigned_kept g.types names (λ m n. Has m) written xs u w v m m h
 
     -- from memories that have the property, each end has it

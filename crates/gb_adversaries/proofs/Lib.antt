@@ -5,6 +5,9 @@ pub mod Pairs
 pub mod Answering
 pub mod Runs
 pub mod KeptRuns
+pub mod Whole
+pub mod UntilPairs
+pub mod UntilRuns
 pub mod Judged
 pub mod Kept
 pub mod Carried

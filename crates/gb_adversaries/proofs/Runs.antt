@@ -12,7 +12,7 @@ use Rattle.gb_meaning.specs.Names.{Map, empty, set}
 use Rattle.gb_meaning.specs.Program.{Program, Routine, Oracle}
 use Rattle.gb_meaning.specs.Program.Program.{done, assign, sample, branch, loop, call, ask}
 use Rattle.gb_meaning.specs.Program.Routine.{routine}
-use Rattle.gb_meaning.specs.Runs.{new_frame, outcomes, routine_denominator, valued}
+use Rattle.gb_meaning.specs.Runs.{is_true, new_frame, out, outcomes, routine_denominator, run_denominator, valued}
 use Rattle.gb_meaning.specs.Setting.{Setting}
 use Rattle.gb_meaning.specs.Sound.{IsDistribution}
 use Rattle.gb_meaning.specs.State.{State, closed}
@@ -27,15 +27,16 @@ use Rattle.gb_adversaries.proofs.Answering.{answers_coupled}
 use Rattle.gb_adversaries.proofs.Expressions.{same_value, same_test, same_turns, same_draws, same_values, values_have}
 use Rattle.gb_adversaries.proofs.Pairs.{AreBoth, both_done, both_assign, both_sample, both_branch, both_loop, both_call}
 use Rattle.gb_adversaries.proofs.Related.{alike_reads, alike_writes, alike_assigned, alike_returned}
+use Rattle.gb_prog.proofs.Turns.{turns_coupled}
 
 -- what a distribution over a variable's values is
-record Draws (g : Setting) (names : Names) (x : Var) (d : Term) : Type 0 where
-  ty : Ty
-  typed : type_of names x ≡ Some ty
-  expression : IsExpression names d
-  distribution : IsDistribution g d
+pub record Draws (g : Setting) (names : Names) (x : Var) (d : Term) : Type 0 where
+  pub ty : Ty
+  pub typed : type_of names x ≡ Some ty
+  pub expression : IsExpression names d
+  pub distribution : IsDistribution g d
 
-draws : (g : Setting) (names : Names) (x : Var) (d : Term) (o : Option Ty) → type_of names x ≡ o → IsDistributionOver g names o d → Draws g names x d
+pub draws : (g : Setting) (names : Names) (x : Var) (d : Term) (o : Option Ty) → type_of names x ≡ o → IsDistributionOver g names o d → Draws g names x d
 draws g names x d None e w = absurd w
 draws g names x d (Some u) e w = record { ty = u; typed = e; expression = w.0; distribution = w.1 }
 
@@ -48,7 +49,7 @@ module _ (g : Setting) (ss : Oracle → Option Signature) (R : Map → Map → B
     abbrev Both : Program → Program → Type 0
     Both a b = AreBoth g A s a b
 
-    assigned_both : (xs : List Var) (e : Term) → IsExpression names e → Takes names xs (written_type e) → (m n : Memory) → A m n →
+    pub assigned_both : (xs : List Var) (e : Term) → IsExpression names e → Takes names xs (written_type e) → (m n : Memory) → A m n →
         A (assigned g.types m xs (valued g s e m)) (assigned g.types n xs (valued g s e n))
     assigned_both xs e w k m n r =
         subst (λ v. A (assigned g.types m xs (valued g s e m)) (assigned g.types n xs v)) (same_value g names m n (alike_reads g names R kept m n r) s e w)
@@ -56,7 +57,7 @@ module _ (g : Setting) (ss : Oracle → Option Signature) (R : Map → Map → B
 
     sampled_both : (x : Var) (d : Term) (a b : Program) → Draws g names x d → Both a b → Both (sample x d a) (sample x d b)
     sampled_both x d a b w k =
-        both_sample g A s x d a b w.distribution (λ m n r. same_draws g names m n (alike_reads g names R kept m n r) s d w.expression)
+        both_sample g A A s x d a b w.distribution (λ m n r. same_draws g names m n (alike_reads g names R kept m n r) s d w.expression)
         (λ v m n r. alike_writes g names R kept x w.ty w.typed v m n r) k
 
     -- calls with the same arguments, of procedures that are coupled from such
@@ -65,7 +66,7 @@ module _ (g : Setting) (ss : Oracle → Option Signature) (R : Map → Map → B
         Coupling A (outcomes g p vs G) (routine_denominator g p) (outcomes g q vs H) (routine_denominator g q)) →
         Both a b → Both (call xs p es a) (call xs q es b)
     called_both xs p q es a b ps u w k ends l =
-        both_call g A s xs p q es a b
+        both_call g A A s A xs p q es a b
         (λ m n r. subst (λ vs. Coupling A (outcomes g p (map (λ e. valued g s e m) es) m.globals) (routine_denominator g p) (outcomes g q vs n.globals) (routine_denominator g q))
         (same_values g names m n (alike_reads g names R kept m n r) s es ps w)
         (ends (map (λ e. valued g s e m) es) (values_have g names s m es ps w) m.globals n.globals r.own r.related))
@@ -85,7 +86,7 @@ module _ (g : Setting) (ss : Oracle → Option Signature) (R : Map → Map → B
     asked_both alike xs o es a b (Some u) e w k = answered_both xs o es a b u w k (os o) (qs o) (alike o u e)
 
     -- outcomes with the same result
-    ended_both : (e : Term) → IsExpression names e → (m n : Memory) → A m n → A (outcome m.globals (valued g s e m)) (outcome n.globals (valued g s e n))
+    pub ended_both : (e : Term) → IsExpression names e → (m n : Memory) → A m n → A (outcome m.globals (valued g s e m)) (outcome n.globals (valued g s e n))
     ended_both e w m n r = record {
       frames = ap (λ v. set empty (result_name ∷ []) v) (same_value g names m n (alike_reads g names R kept m n r) s e w);
       own = r.own;
@@ -97,17 +98,19 @@ module _ (g : Setting) (ss : Oracle → Option Signature) (R : Map → Map → B
         AreBoth g (Alike g.types names.globals R) s (link os c) (link qs c)
     program_coupled names kept alike done w s = both_done g (A names kept s) s
     program_coupled names kept alike (assign xs e c) w s =
-        both_assign g (A names kept s) s xs e (link os c) (link qs c) (assigned_both names kept s xs e w.0.0 w.1) (program_coupled names kept alike c w.2 s)
+        both_assign g (A names kept s) (A names kept s) s xs e (link os c) (link qs c) (assigned_both names kept s xs e w.0.0 w.1) (program_coupled names kept alike c w.2 s)
     program_coupled names kept alike (sample x d c) w s =
         sampled_both names kept s x d (link os c) (link qs c) (draws g names x d (type_of names x) refl w.0) (program_coupled names kept alike c w.1 s)
     program_coupled names kept alike (branch e a b c) w s =
-        both_branch g (A names kept s) s e (link os a) (link os b) (link os c) (link qs a) (link qs b) (link qs c)
+        both_branch g (A names kept s) (A names kept s) s e (link os a) (link os b) (link os c) (link qs a) (link qs b) (link qs c)
         (λ m n r. same_test g names m n (alike_reads g names R kept m n r) s e w.0.0.0)
         (program_coupled names kept alike a w.1 s) (program_coupled names kept alike b w.2 s) (program_coupled names kept alike c w.3 s)
     program_coupled names kept alike (loop e v a c) w s =
-        both_loop g (A names kept s) s e v (link os a) (link os c) (link qs a) (link qs c)
-        (λ m n r. same_test g names m n (alike_reads g names R kept m n r) s e w.0.0.0) (λ m n r. same_turns g names m n (alike_reads g names R kept m n r) s v w.1.0.0)
-        (program_coupled names kept alike a w.2 s) (program_coupled names kept alike c w.3 s)
+        both_loop g (A names kept s) (A names kept s) s e v (link os a) (link os c) (link qs a) (link qs c)
+        (λ m n r. same_turns g names m n (alike_reads g names R kept m n r) s v w.1.0.0)
+        (turns_coupled (is_true g s e) (is_true g s e) (λ o. out g s (link os a) o) (λ o. out g s (link qs a) o) (run_denominator g (link os a)) (run_denominator g (link qs a)) (A names kept s)
+        (λ m n r. same_test g names m n (alike_reads g names R kept m n r) s e w.0.0.0) (λ m n r t. program_coupled names kept alike a w.2 s m n r))
+        (program_coupled names kept alike c w.3 s)
     program_coupled names kept alike (call xs r es c) w s =
         called_both names kept s xs (link_routine os r) (link_routine qs r) es (link os c) (link qs c) (params_of r) (result_type r) w.1 w.2
         (λ vs k. routine_coupled names.globals kept alike r w.0 vs) (program_coupled names kept alike c w.3 s)

@@ -1,5 +1,5 @@
 -- What judgments of two procedures say, where both answer for an oracle.
-use Rattle.std.specs.Prelude.{◌≡◌, Bool, true, Some}
+use Rattle.std.specs.Prelude.{◌≡◌, Bool, true, false, Some}
 use Rattle.gb_core.specs.declared.ty.Ty.{Ty}
 use Rattle.gb_dist.specs.Coupling.{Coupling}
 use Rattle.gb_dist.specs.WeightedList.{Every}
@@ -14,6 +14,7 @@ use Rattle.gb_meaning.specs.Declared.{Signature}
 use Rattle.gb_typing.specs.Fits.{IsOfType}
 use Rattle.gb_typing.specs.Modules.{ProcedureType, same_params}
 use Rattle.gb_typing.specs.Scopes.{HaveOwnNames}
+use Rattle.gb_adversaries.specs.Until.{Until}
 
 -- A procedure that may answer for an oracle of a signature: its parameters and its result have the signature's types. The parameters may
 -- have other names.
@@ -37,3 +38,9 @@ AreJudgedAlike g R t r q = (m n : Memory) → parameter_values g r m ≡ paramet
 -- From each memory that has the property, each outcome has it.
 abbrev pub IsJudgedToKeep : Setting → (Map → Bool) → Routine → Type 0
 IsJudgedToKeep g I r = (m : Memory) → I m.globals ≡ true → Every (λ a. I a.globals ≡ true) (from_frame g (Some r) m)
+
+-- .. where an event of the right globals hasn't come about, and as long as it still hasn't
+abbrev pub AreJudgedUntil : Setting → (Map → Bool) → (Map → Map → Bool) → Ty → Routine → Routine → Type 0
+AreJudgedUntil g B R t r q = (m n : Memory) → parameter_values g r m ≡ parameter_values g q n → B n.globals ≡ false → R m.globals n.globals ≡ true →
+    Coupling (Until B (λ a b. (read_local g.types a result_name t ≡ read_local g.types b result_name t) × (R a.globals b.globals ≡ true)))
+    (from_frame g (Some r) m) (routine_denominator g r) (from_frame g (Some q) n) (routine_denominator g q)

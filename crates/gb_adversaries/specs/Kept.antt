@@ -9,7 +9,7 @@ use Rattle.gb_meaning.specs.Setting.{Setting}
 use Rattle.gb_meaning.specs.Values.{Global}
 use Rattle.gb_typing.specs.Fits.{IsOfType}
 use Rattle.gb_adversaries.specs.Coupled.{Leaves}
-use Rattle.gb_adversaries.specs.Judged.{HasOwnNames, AreJudgedAlike, IsJudgedToKeep}
+use Rattle.gb_adversaries.specs.Judged.{HasOwnNames, AreJudgedAlike, IsJudgedToKeep, IsFor, AreJudgedUntil}
 
 -- A reference to a procedure that the setting has, of the type that is known of it.
 pub record IsThere (ds : Declarations) (g : Setting) (o : ProcRef) : Type 0 where
@@ -29,6 +29,17 @@ pub record AreKeeping (ds : Declarations) (g : Setting) (gs : List Global) (R : 
   pub left_leaves : Leaves g gs (let x = left in x.means)
   pub right_leaves : Leaves g gs (let y = right in y.means)
   pub judged : AreJudgedAlike g R (let x = left in let t = x.type in t.result) (let x = left in x.means) (let y = right in y.means)
+
+-- The same, until an event of the right globals has come about, which the right one is judged to keep.
+pub record AreKeepingUntil (ds : Declarations) (g : Setting) (gs : List Global) (B : Map → Bool) (R : Map → Map → Bool) (o p : ProcRef) : Type 0 where
+  pub left : IsThere ds g o
+  pub right : IsThere ds g p
+  pub left_names : HasOwnNames (let x = left in x.means)
+  pub right_names : HasOwnNames (let y = right in y.means)
+  pub left_leaves : Leaves g gs (let x = left in x.means)
+  pub right_leaves : Leaves g gs (let y = right in y.means)
+  pub judged : AreJudgedUntil g B R (let x = left in let t = x.type in t.result) (let x = left in x.means) (let y = right in y.means)
+  pub event : IsJudgedToKeep g B (let y = right in y.means)
 
 -- An oracle that is judged to keep a property of globals.
 pub record IsKeeping (ds : Declarations) (g : Setting) (I : Map → Bool) (o : ProcRef) : Type 0 where

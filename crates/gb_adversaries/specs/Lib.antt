@@ -1,4 +1,5 @@
 pub mod Coupled
+pub mod Until
 pub mod KeptProperty
 pub mod Judged
 pub mod Kept

@@ -7,3 +7,4 @@ pub mod coupled_laws;
 pub mod judged_laws;
 pub mod kept_laws;
 pub mod laws;
+pub mod until_laws;

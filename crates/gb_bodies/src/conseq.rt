@@ -129,7 +129,6 @@ fn weakened(
 }
 
 /// The goals of a judgment with a probability.
-#[tactic(auto, using(crate::proofs::ConseqSteps::behind_bound))]
 fn of_chance(
     alloc: Global,
     goal: &Sequent,

@@ -1,6 +1,7 @@
 //! The rule `proc`.
 
 ghost use Rattle.std.specs.Prelude.{◌≡◌, ◌∷◌, [], IfOk};
+ghost use Rattle.std.specs.Option.{option_zip};
 ghost use Rattle.gb_meaning.specs.Declared.{declared};
 ghost use Rattle.gb_typing.specs.Scopes.{context_of, IsTypedScope};
 ghost use Rattle.gb_typing.specs.Sequents.{of_sequent, IsTypedSequent};
@@ -9,13 +10,14 @@ ghost use Rattle.gb_goal.specs.Answers.{Answers};
 ghost use Rattle.gb_goal.specs.Goal.{form_of};
 ghost use Rattle.gb_goal.specs.Goal.Code.{body};
 ghost use Rattle.gb_goal.specs.Goal.Goal.{hoare, phoare, equiv};
-ghost use Rattle.gb_goal.specs.Rows.{answered};
+ghost use Rattle.gb_goal.specs.Rows.{answered, each_concluding};
 ghost use Rattle.gb_goal.specs.Scope.{Declarations};
 ghost use Rattle.gb_walk.specs.Change.{term_changed};
 ghost use Rattle.gb_typing.specs.Rules.{IsSoundRuleIn, no_arguments};
 ghost use Rattle.gb_typing.specs.Calls.{returned};
-ghost use Rattle.gb_bodies.specs.Proc.{of_result, proc_row};
+ghost use Rattle.gb_bodies.specs.Proc.{of_chance, of_one, of_result, of_two, proc_row};
 
+use gb_core::Shared;
 use gb_core::name::Name;
 use gb_core::refusal::Refused;
 use gb_core::var::Var;
@@ -100,36 +102,81 @@ fn two_entered(
     equiv(alloc, left, right, pre, post)
 }
 
+/// The goal on the body of a procedure, where it is known.
+fn of_one(
+    alloc: Global,
+    goal: &Sequent,
+    found: Option<Shared<Proc>>,
+    pre: &Form,
+    post: &Form,
+) -> Result<Sequents, Refused>
+    ensures { Answers (each_concluding goal.now (of_one pre.now post.now found)) result }
+{
+    let Some(proc) = found else {
+        return Err(no_shape());
+    };
+    let conclusion = one_entered(alloc, proc.get(), pre, post)?;
+    one_goal(alloc, goal, conclusion).map_err(Refused::from)
+}
+
+/// The same with a probability.
+fn of_chance(
+    alloc: Global,
+    goal: &Sequent,
+    found: Option<Shared<Proc>>,
+    rel: Rel,
+    pre: &Form,
+    post: &Form,
+    bound: &RealTerm,
+) -> Result<Sequents, Refused>
+    ensures { Answers (each_concluding goal.now (of_chance rel pre.now post.now bound.now found)) result }
+{
+    let Some(proc) = found else {
+        return Err(no_shape());
+    };
+    let conclusion = chance_entered(alloc, proc.get(), rel, pre, post, bound)?;
+    one_goal(alloc, goal, conclusion).map_err(Refused::from)
+}
+
+/// The same of two procedures.
+fn of_two(
+    alloc: Global,
+    goal: &Sequent,
+    left: Option<Shared<Proc>>,
+    right: Option<Shared<Proc>>,
+    pre: &Form,
+    post: &Form,
+) -> Result<Sequents, Refused>
+    ensures { Answers (each_concluding goal.now (of_two pre.now post.now (option_zip left right))) result }
+{
+    let (Some(left), Some(right)) = (left, right) else {
+        return Err(no_shape());
+    };
+    let conclusion = two_entered(alloc, left.get(), right.get(), pre, post)?;
+    one_goal(alloc, goal, conclusion).map_err(Refused::from)
+}
+
 /// The subgoals of `proc`: from concrete procedures to their bodies. Parameters are locals, and the postcondition speaks of the terms
 /// that the procedures return in place of their results. Refused with `Shape` at any other goal.
 pub fn proc(alloc: Global, goal: &Sequent, scope: &Scope) -> Result<Sequents, Refused>
     ensures { Answers (answered (proc_row scope.now) goal.now) result }
 {
-    let conclusion = match goal_of(&goal.conclusion) {
+    match goal_of(&goal.conclusion) {
         Goal::Hoare(Code::Procedure(named), pre, post) => {
-            let Some(proc) = scope.procedure(alloc, named)? else {
-                return Err(no_shape());
-            };
-            one_entered(alloc, proc.get(), pre, post)
+            let found = scope.procedure(alloc, named)?;
+            of_one(alloc, goal, found, pre, post)
         }
         Goal::Phoare(Code::Procedure(named), rel, pre, post, bound) => {
-            let Some(proc) = scope.procedure(alloc, named)? else {
-                return Err(no_shape());
-            };
-            chance_entered(alloc, proc.get(), rel, pre, post, bound)
+            let found = scope.procedure(alloc, named)?;
+            of_chance(alloc, goal, found, rel, pre, post, bound)
         }
         Goal::Equiv(Code::Procedure(left), Code::Procedure(right), pre, post) => {
-            let Some(left) = scope.procedure(alloc, left)? else {
-                return Err(no_shape());
-            };
-            let Some(right) = scope.procedure(alloc, right)? else {
-                return Err(no_shape());
-            };
-            two_entered(alloc, left.get(), right.get(), pre, post)
+            let there = scope.procedure(alloc, right)?;
+            let here = scope.procedure(alloc, left)?;
+            of_two(alloc, goal, here, there, pre, post)
         }
-        _ => return Err(no_shape()),
-    };
-    one_goal(alloc, goal, conclusion?).map_err(Refused::from)
+        _ => Err(no_shape()),
+    }
 }
 
 /// `proc` is sound over each typed scope, at the goal of each typed sequent.

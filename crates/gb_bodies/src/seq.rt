@@ -1,20 +1,21 @@
 //! The rule `seq`.
 
-ghost use Rattle.std.specs.Prelude.{◌≡◌, [], ◌∷◌, map, IfOk};
+ghost use Rattle.std.specs.Prelude.{◌≡◌, IfOk};
 ghost use Rattle.gb_terms.specs.declared.term.Term.{Term};
 ghost use Rattle.gb_steps.specs.declared.step.Cut.{Cut as Position};
+ghost use Rattle.gb_steps.specs.declared.step.Cut.TheVariants.{One, Two};
 ghost use Rattle.gb_goal.specs.Answers.{Answers};
 ghost use Rattle.gb_goal.specs.Goal.Code.{body};
 ghost use Rattle.gb_goal.specs.Goal.Goal.{hoare, equiv};
 ghost use Rattle.gb_goal.specs.Goal.{form_of};
-ghost use Rattle.gb_goal.specs.Rows.{answered, concluding};
+ghost use Rattle.gb_goal.specs.Rows.{answered, each_concluding};
 ghost use Rattle.gb_typing.specs.Context.{Context};
 ghost use Rattle.gb_typing.specs.Rules.{IsSoundRule};
 ghost use Rattle.gb_bodies.specs.Seq.{seq_row, IsTypedCut};
 
 use crate::goals::of_two;
 use gb_core::refusal::{Refused, Why};
-use gb_forms::cuts::{Parts, cut_bodies};
+use gb_forms::cuts::cut_bodies;
 use gb_goal::goal::{Code, Goal, goal_of, hoare};
 use gb_goal::sequent::{Sequent, Sequents};
 use gb_prog::subgoals::{no_shape, refusal, shared_body, two_goals};
@@ -36,36 +37,44 @@ fn of_one(alloc: Global, list: &[Instr], pre: &Form, post: &Form) -> Result<Form
 fn one_cut(
     alloc: Global,
     goal: &Sequent,
-    parts: (&[Instr], &[Instr]),
+    count: u128,
+    list: &[Instr],
     pre: &Form,
     between: &Form,
     post: &Form,
-) -> Result<Sequents, AllocError>
-    ensures { IfOk result (λ goals. goals ≡ map (concluding goal.now)
-        (hoare (body parts.entry.0.now) pre.now between.now ∷ hoare (body parts.entry.1.now) between.now post.now ∷ [])) }
+) -> Result<Sequents, Refused>
+    ensures { Answers (each_concluding goal.now (seq_row (One count) between.now (hoare (body list.now) pre.now post.now))) result }
 {
-    let first = of_one(alloc, parts.0, pre, between)?;
-    let rest = of_one(alloc, parts.1, between, post)?;
-    two_goals(alloc, goal, first, rest)
+    if count > list.len() as u128 {
+        return Err(refusal(Why::Argument));
+    }
+    let (first, rest) = list.split_at(count as usize);
+    let first = of_one(alloc, first, pre, between)?;
+    let rest = of_one(alloc, rest, between, post)?;
+    two_goals(alloc, goal, first, rest).map_err(Refused::from)
 }
 
 /// The goals of the parts of two bodies.
 fn two_cut(
     alloc: Global,
     goal: &Sequent,
-    parts: (Parts<'_>, Parts<'_>),
+    counts: (u128, u128),
+    lists: (&[Instr], &[Instr]),
     pre: &Form,
     between: &Form,
     post: &Form,
-) -> Result<Sequents, AllocError>
-    ensures { IfOk result (λ goals. goals ≡ map (concluding goal.now)
-        (equiv (body parts.entry.0.left.now) (body parts.entry.0.right.now) pre.now between.now
-        ∷ equiv (body parts.entry.1.left.now) (body parts.entry.1.right.now) between.now post.now ∷ [])) }
+) -> Result<Sequents, Refused>
+    ensures { Answers (each_concluding goal.now (seq_row (Two counts.0 counts.1) between.now (equiv (body lists.entry.0.now) (body lists.entry.1.now) pre.now post.now))) result }
 {
-    let (first, rest) = parts;
+    let (here, there) = counts;
+    let (left, right) = lists;
+    if here > left.len() as u128 || there > right.len() as u128 {
+        return Err(refusal(Why::Argument));
+    }
+    let (first, rest) = cut_bodies(left, right, here as usize, there as usize);
     let first = of_two(alloc, first.left, first.right, pre, between.share()?)?;
     let rest = of_two(alloc, rest.left, rest.right, between, post.share()?)?;
-    two_goals(alloc, goal, first, rest)
+    two_goals(alloc, goal, first, rest).map_err(Refused::from)
 }
 
 /// The subgoals of `seq`: what is said between the parts of each body holds after the first, and the rest leads from there to the
@@ -81,18 +90,11 @@ pub fn seq(
 {
     match (position, goal_of(&goal.conclusion)) {
         (Cut::One(count), Goal::Hoare(Code::Body(list), pre, post)) => {
-            if count > list.len() as u128 {
-                return Err(refusal(Why::Argument));
-            }
-            let parts = list.split_at(count as usize);
-            one_cut(alloc, goal, parts, pre, between, post).map_err(Refused::from)
+            one_cut(alloc, goal, count, list, pre, between, post)
         }
         (Cut::Two(here, there), Goal::Equiv(Code::Body(left), Code::Body(right), pre, post)) => {
-            if here > left.len() as u128 || there > right.len() as u128 {
-                return Err(refusal(Why::Argument));
-            }
-            let parts = cut_bodies(left, right, here as usize, there as usize);
-            two_cut(alloc, goal, parts, pre, between, post).map_err(Refused::from)
+            let lists = (left, right);
+            two_cut(alloc, goal, (here, there), lists, pre, between, post)
         }
         _ => Err(no_shape()),
     }

@@ -19,10 +19,12 @@ ghost use Rattle.gb_typing.specs.Sequents.{of_sequent, IsTypedSequent};
 ghost use Rattle.gb_typing.specs.Rules.{IsSoundRuleIn};
 ghost use Rattle.gb_full.specs.Loss.{first_loss};
 ghost use Rattle.gb_full.specs.Lossless.{of_rest};
-ghost use Rattle.gb_call.specs.Call.{before_call, by_callee, call_goals, call_row, chance_goals, chances_by_callee, callee_of, callee_seen, known_seen, left_of, on_programs, IsTypedContract};
+ghost use Rattle.gb_call.specs.Call.{before_call, by_callee, call_goals, call_row, chance_goals, chances_by_callee, chances_of_callee, callee_of, callee_seen, known_seen, left_of, of_callee, on_programs, IsTypedContract};
 ghost use Rattle.gb_call.specs.LastCall.{call_seen, last_call};
 ghost use Rattle.gb_call.specs.Outcomes.{clash_after, globals_seen, is_left};
-ghost use Rattle.gb_call.specs.Written.{with_types};
+ghost use Rattle.gb_call.specs.Written.{typed_seen, with_types};
+ghost use Rattle.gb_forms.specs.Calls.{is_left_of};
+ghost use Rattle.gb_mods.specs.Exclusions.{exclusions};
 
 use crate::last_call::{Last, last_call};
 use crate::outcomes::{Outcome, after_call, clashing_after, of_arguments};
@@ -139,10 +141,31 @@ fn by_globals(
 }
 
 /// What is read of a memory after a call, and the globals among it that the call writes, with their types.
-#[derive(Drop)]
 pub struct ReadAfter {
     pub reads: Reads,
     pub globals: TypedGlobals,
+}
+
+impl Drop for ReadAfter {
+    fn drop(self) {
+        let ReadAfter { reads, globals } = self;
+        drop(reads);
+        drop(globals);
+    }
+}
+
+/// The globals among these that are read after a call with this left side, with their types. None where one of them has none.
+fn typed_left(
+    alloc: Global,
+    scope: &Scope,
+    targets: &[Var],
+    reads: &Reads,
+    written: &[Var],
+) -> Result<Option<TypedGlobals>, AllocError>
+    ensures { IfOk result (λ made. typed_seen made ≡ with_types scope.now (filter (is_left_of targets.now reads.now.said reads.now.after) written.now)) }
+{
+    let left = left_of(alloc, targets, reads, written)?;
+    with_types(alloc, scope, left.as_slice())
 }
 
 /// What is read of a memory after a call with this left side, and of what it writes, where this is said of its outcome. None where one of
@@ -163,8 +186,7 @@ pub fn read_of(
     let said = variables_read(alloc, said, side)?;
     let after = variables_read(alloc, post, side)?;
     let reads = Reads { said, after };
-    let left = left_of(alloc, targets, &reads, written)?;
-    match with_types(alloc, scope, left.as_slice())? {
+    match typed_left(alloc, scope, targets, &reads, written)? {
         Some(globals) => Ok(Some(ReadAfter { reads, globals })),
         None => Ok(None),
     }
@@ -216,6 +238,22 @@ pub fn clash_after<'a>(
     )
 }
 
+/// The same over the exclusions of a scope.
+pub fn clash_in<'a>(
+    alloc: Global,
+    side: Side,
+    scope: &Scope,
+    callee: &Callee<'a>,
+    contract: &Contract,
+    post: &Form,
+) -> Result<Option<&'a Var>, AllocError>
+    ensures { IfOk result (λ found. option_copied found ≡
+        clash_after (exclusions scope.now) side (callee_seen callee.now).call.targets (callee_seen callee.now).written contract.now.post post.now) }
+{
+    let excluded = exclusions(alloc, scope)?;
+    Ok(clash_after(excluded.as_slice(), side, callee, contract, post))
+}
+
 /// The refusal at a variable that clashes with one that is replaced.
 pub fn side_condition(alloc: Global, var: &Var) -> Refused
     ensures { Refuses (SideCondition var.now) nowhere result }
@@ -242,8 +280,7 @@ fn by_callee(
     if targets.len() >= MANY {
         return Err(no_shape());
     }
-    let excluded = exclusions(alloc, scope)?;
-    if let Some(var) = clash_after(excluded.as_slice(), Side::Own, callee, contract, post) {
+    if let Some(var) = clash_in(alloc, Side::Own, scope, callee, contract, post)? {
         return Err(side_condition(alloc, var));
     }
     let Some(read) = read_after(alloc, Side::Own, scope, callee, contract, post)? else {
@@ -366,8 +403,7 @@ fn chances_by_callee(
         return Err(no_shape());
     }
     let post = judged.post;
-    let excluded = exclusions(alloc, scope)?;
-    if let Some(var) = clash_after(excluded.as_slice(), Side::Own, callee, contract, post) {
+    if let Some(var) = clash_in(alloc, Side::Own, scope, callee, contract, post)? {
         return Err(side_condition(alloc, var));
     }
     let Some(read) = read_after(alloc, Side::Own, scope, callee, contract, post)? else {
@@ -387,11 +423,22 @@ fn chances_by_callee(
 }
 
 /// A call that ends a body, its procedure, and the globals that it is known to write.
-#[derive(Drop)]
 pub struct Known<'a> {
     pub call: Last<'a>,
     pub declared: Shared<Proc>,
     pub written: Vars,
+}
+
+impl<'a> Drop for Known<'a> {
+    fn drop(self) {
+        let Known {
+            call: _,
+            declared,
+            written,
+        } = self;
+        drop(declared);
+        drop(written);
+    }
 }
 
 /// The same, if there is a call, and it is known.
@@ -429,6 +476,44 @@ pub fn callee_of<'a>(known: &'a Known<'a>) -> Callee<'a>
     }
 }
 
+/// The subgoals on a body that ends with this call.
+fn of_callee(
+    alloc: Global,
+    goal: &Sequent,
+    scope: &Scope,
+    contract: &Contract,
+    pre: &Form,
+    post: &Form,
+    call: Option<Last<'_>>,
+) -> Result<Sequents, Refused>
+    ensures { Answers (each_concluding goal.now (of_callee scope.now contract.now pre.now post.now (callee_of scope.now (option_map call_seen call.entry)))) result }
+{
+    let Some(known) = known_call(alloc, scope, call)? else {
+        return Err(no_shape());
+    };
+    let callee = callee_of(&known);
+    by_callee(alloc, goal, scope, contract, pre, post, &callee)
+}
+
+/// The subgoals on a body that ends with this call, where a probability is judged.
+fn chances_of_callee(
+    alloc: Global,
+    goal: &Sequent,
+    scope: &Scope,
+    contract: &Contract,
+    judged: &Judged<'_>,
+    call: Option<Last<'_>>,
+) -> Result<Sequents, Refused>
+    ensures { Answers (each_concluding goal.now (chances_of_callee scope.now contract.now judged.now.rel judged.now.pre.now judged.now.post.now judged.now.bound.now
+        (callee_of scope.now (option_map call_seen call.entry)))) result }
+{
+    let Some(known) = known_call(alloc, scope, call)? else {
+        return Err(no_shape());
+    };
+    let callee = callee_of(&known);
+    chances_by_callee(alloc, goal, scope, contract, judged, &callee)
+}
+
 /// The subgoals of a goal that is seen so.
 pub fn called(
     alloc: Global,
@@ -441,12 +526,7 @@ pub fn called(
 {
     match (contract.acts, seen) {
         (Acts::All, Goal::Hoare(Code::Body(body), pre, post)) => {
-            match known_call(alloc, scope, last_call(body))? {
-                Some(known) => {
-                    by_callee(alloc, goal, scope, contract, pre, post, &callee_of(&known))
-                }
-                None => Err(no_shape()),
-            }
+            of_callee(alloc, goal, scope, contract, pre, post, last_call(body))
         }
         (Acts::All, Goal::Phoare(Code::Body(body), rel, pre, post, bound)) => {
             let judged = Judged {
@@ -455,12 +535,7 @@ pub fn called(
                 post,
                 bound,
             };
-            match known_call(alloc, scope, last_call(body))? {
-                Some(known) => {
-                    chances_by_callee(alloc, goal, scope, contract, &judged, &callee_of(&known))
-                }
-                None => Err(no_shape()),
-            }
+            chances_of_callee(alloc, goal, scope, contract, &judged, last_call(body))
         }
         _ => Err(no_shape()),
     }

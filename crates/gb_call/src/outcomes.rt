@@ -54,8 +54,8 @@ pub fn put_for(
     let mut changes = before;
     for i in 0..params.len().min(arguments.len()) {
         let name = params[i].name.copy(alloc)?;
-        let var = Var::Local { name };
         let value = located(alloc, &arguments[i], side)?;
+        let var = Var::Local { name };
         changes.push(Change::ToTerm(Read::Program { var, side }, value))?;
     }
     Ok(changes)

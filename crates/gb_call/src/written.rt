@@ -18,10 +18,17 @@ use sqlite_items::Items;
 use std::alloc::{AllocError, Global};
 
 /// A global with its type.
-#[derive(Drop)]
 pub struct TypedGlobal {
     pub variable: Var,
     pub ty: Shared<Ty>,
+}
+
+impl Drop for TypedGlobal {
+    fn drop(self) {
+        let TypedGlobal { variable, ty } = self;
+        drop(variable);
+        drop(ty);
+    }
 }
 
 pub type TypedGlobals = Items<TypedGlobal>;

@@ -53,7 +53,7 @@ use Rattle.gb_call.specs.Outcomes.{Outcome}
 use Rattle.gb_call.proofs.After.{all_append, written_both}
 use Rattle.gb_call.proofs.AfterMeans.{IsOneIn}
 use Rattle.gb_call.proofs.LeftSides.{AreFor, are_for, left_puts, left_writes, left_ends, left_values, value_here}
-use Rattle.gb_call_both.specs.BothOutcomes.{after_both_where, bound_of_both, globals_of, left_side_of, left_sides, of_both_returns, result_of}
+use Rattle.gb_call_both.specs.BothOutcomes.{after_among, left_side_of, result_of, results_among, returns_among, values_among}
 use Rattle.gb_call_both.proofs.OneSide.{anywhere, ends_with_result, ends_without_result, is_result, result_frame, result_variable, said_with_result, said_without_result}
 use Rattle.gb_call_both.proofs.Sided.{AreOnSides, globals_on_sides, left_only, of_side, pushed_append, right_only, same_form, sided_typed, values_typed, written_sides}
 
@@ -89,8 +89,25 @@ abbrev pub Covers : Setting → Bool → (Var → Bool) → List Var → List Va
 Covers g true L xs T W = (y : Var) → L y ≡ true → IsOneIn y xs ⊎ (IsApart g T y ⊎ IsOneOf y W)
 Covers g false L xs T W = (y : Var) → L y ≡ true → IsApart g xs y × (IsApart g T y ⊎ IsOneOf y W)
 
+-- Variables of two memories in any order: those of the left one, and those of the right one.
+pub record AreAmong (b : Context) (W V : List TypedVariable) (G : List Located) : Type 0 where
+  pub sides : AreOnSides G
+  pub left : of_side side.Left G ≡ W
+  pub right : of_side side.Right G ≡ V
+  pub located : (f h : List TypedName) → AreLocated (reframed (outermost b) None (Some f) (Some h)) G
+
+pub globals_located : (b : Context) (f h : List TypedName) (W V : List TypedVariable) → AreIn (outermost b) (Some []) W → AreIn (outermost b) (Some []) V →
+    AreLocated (reframed (outermost b) None (Some f) (Some h)) (in_memory side.Left W ++ in_memory side.Right V)
+globals_located b f h [] [] i k = tt
+globals_located b f h [] (v ∷ V) i k = ((tt, anywhere b None (Some f) (Some h) h v.variable v.ty k.0.0, k.0.1), globals_located b f h [] V i k.1)
+globals_located b f h (w ∷ W) V i k = ((tt, anywhere b None (Some f) (Some h) f w.variable w.ty i.0.0, i.0.1), globals_located b f h W V i.1 k)
+
+-- those of the left one before those of the right one
+pub globals_among : (b : Context) (W V : List TypedVariable) → AreIn (outermost b) (Some []) W → AreIn (outermost b) (Some []) V → AreAmong b W V (in_memory side.Left W ++ in_memory side.Right V)
+globals_among b W V i k = record { sides = globals_on_sides W V; left = left_only W V; right = right_only W V; located = λ f h. globals_located b f h W V i k }
+
 module _ (b : Context) (ls rs : List TypedName) (R S : Ty) (W V : List TypedVariable) (left_globals : AreIn (outermost b) (Some []) W) (right_globals : AreIn (outermost b) (Some []) V) (left_finite : IsFinite R) (right_finite : IsFinite S)
-    (xs ys : List Var) (left_takes : Take (erased (outermost b)) ls xs R) (right_takes : Take (erased (outermost b)) rs ys S) (left_few : length xs < 9) (right_few : length ys < 9) where
+    (xs ys : List Var) (left_takes : Take (erased (outermost b)) ls xs R) (right_takes : Take (erased (outermost b)) rs ys S) (left_few : length xs < 9) (right_few : length ys < 9) (G : List Located) (among : AreAmong b W V G) where
   abbrev o : Outcome
   o = record { side = side.Left; targets = xs; result = R; globals = W }
 
@@ -100,37 +117,29 @@ module _ (b : Context) (ls rs : List TypedName) (R S : Ty) (W V : List TypedVari
   abbrev d : Context
   d = reframed (outermost b) None (Some ls) (Some rs)
 
-  abbrev G : List Located
-  G = globals_of o p
+  on_sides : (l r : Bool) → AreOnSides (values_among l r o p G)
+  on_sides true true = (tt, (tt, among.sides))
+  on_sides true false = (tt, among.sides)
+  on_sides false true = (tt, among.sides)
+  on_sides false false = among.sides
 
-  pub globals_located : (f h : List TypedName) (W V : List TypedVariable) → AreIn (outermost b) (Some []) W → AreIn (outermost b) (Some []) V → AreLocated (reframed (outermost b) None (Some f) (Some h)) (in_memory side.Left W ++ in_memory side.Right V)
-  globals_located f h [] [] i k = tt
-  globals_located f h [] (v ∷ V) i k = ((tt, anywhere b None (Some f) (Some h) h v.variable v.ty k.0.0, k.0.1), globals_located f h [] V i k.1)
-  globals_located f h (w ∷ W) V i k = ((tt, anywhere b None (Some f) (Some h) f w.variable w.ty i.0.0, i.0.1), globals_located f h W V i.1 k)
+  pub located_here : (l r : Bool) → AreLocated (reframed (outermost b) None (Some (frame_if l R)) (Some (frame_if r S))) (values_among l r o p G)
+  located_here true true = ((tt, refl, left_finite), ((tt, refl, right_finite), among.located (frame_if true R) (frame_if true S)))
+  located_here true false = ((tt, refl, left_finite), among.located (frame_if true R) (frame_if false S))
+  located_here false true = ((tt, refl, right_finite), among.located (frame_if false R) (frame_if true S))
+  located_here false false = among.located (frame_if false R) (frame_if false S)
 
-  on_sides : (l r : Bool) → AreOnSides (bound_of_both l r o p)
-  on_sides true true = (tt, (tt, globals_on_sides W V))
-  on_sides true false = (tt, globals_on_sides W V)
-  on_sides false true = (tt, globals_on_sides W V)
-  on_sides false false = globals_on_sides W V
+  left_are : (l r : Bool) → of_side side.Left (values_among l r o p G) ≡ variables_if l R W
+  left_are true true = ap (λ V. result_variable R ∷ V) (among.left)
+  left_are true false = ap (λ V. result_variable R ∷ V) (among.left)
+  left_are false true = among.left
+  left_are false false = among.left
 
-  pub located_here : (l r : Bool) → AreLocated (reframed (outermost b) None (Some (frame_if l R)) (Some (frame_if r S))) (bound_of_both l r o p)
-  located_here true true = ((tt, refl, left_finite), ((tt, refl, right_finite), globals_located (frame_if true R) (frame_if true S) W V left_globals right_globals))
-  located_here true false = ((tt, refl, left_finite), globals_located (frame_if true R) (frame_if false S) W V left_globals right_globals)
-  located_here false true = ((tt, refl, right_finite), globals_located (frame_if false R) (frame_if true S) W V left_globals right_globals)
-  located_here false false = globals_located (frame_if false R) (frame_if false S) W V left_globals right_globals
-
-  left_are : (l r : Bool) → of_side side.Left (bound_of_both l r o p) ≡ variables_if l R W
-  left_are true true = ap (λ V. result_variable R ∷ V) (left_only W V)
-  left_are true false = ap (λ V. result_variable R ∷ V) (left_only W V)
-  left_are false true = left_only W V
-  left_are false false = left_only W V
-
-  right_are : (l r : Bool) → of_side side.Right (bound_of_both l r o p) ≡ variables_if r S V
-  right_are true true = ap (λ W. result_variable S ∷ W) (right_only W V)
-  right_are true false = right_only W V
-  right_are false true = ap (λ W. result_variable S ∷ W) (right_only W V)
-  right_are false false = right_only W V
+  right_are : (l r : Bool) → of_side side.Right (values_among l r o p G) ≡ variables_if r S V
+  right_are true true = ap (λ W. result_variable S ∷ W) (among.right)
+  right_are true false = among.right
+  right_are false true = ap (λ W. result_variable S ∷ W) (among.right)
+  right_are false false = among.right
 
   module _ (l r : Bool) where
     -- the context of what is said, without a result that doesn't occur
@@ -138,7 +147,7 @@ module _ (b : Context) (ls rs : List TypedName) (R S : Ty) (W V : List TypedVari
     said_in = reframed (outermost b) None (Some (frame_if l R)) (Some (frame_if r S))
 
     abbrev all : List Located
-    all = bound_of_both l r o p
+    all = values_among l r o p G
 
     abbrev X : List Binder
     X = pushed binder_of all []
@@ -194,7 +203,7 @@ module _ (b : Context) (ls rs : List TypedName) (R S : Ty) (W V : List TypedVari
   right_changes l false v = refl
 
   -- all writes of the results, as changes
-  both_changes : (l r : Bool) (v u : Term → Value) → written_changes (left_written l r v ++ right_written l r u) ≡ left_sides l r o p
+  both_changes : (l r : Bool) (v u : Term → Value) → written_changes (left_written l r v ++ right_written l r u) ≡ results_among l r o p G
   both_changes l r v u =
       map-append (λ (w : Written). ToTerm (Program w.variable w.side) w.term) (left_written l r v) (right_written l r u)
       ∙ (λ i. left_changes l r v i ++ right_changes l r u i)
@@ -209,8 +218,8 @@ module _ (b : Context) (ls rs : List TypedName) (R S : Ty) (W V : List TypedVari
       left_puts b None (Some ls) (Some rs) side.Right tt rs refl (X l true) (Y l true) (right_depth l true) S right_finite (right_there l) v ys (taken ys (bound_term (right_depth l true) S)) (right_taken l)
   right_typed l false v = tt
 
-  pub finite_types : (l r : Bool) → AllByRecursion (λ w. IsFinite w.1.ty) (bound_of_both l r o p)
-  finite_types l r = of_located (bound_of_both l r o p) (located_here l r)
+  pub finite_types : (l r : Bool) → AllByRecursion (λ w. IsFinite w.1.ty) (values_among l r o p G)
+  finite_types l r = of_located (values_among l r o p G) (located_here l r)
     where
       of_located : (U : List Located) → AreLocated (said_in l r) U → AllByRecursion (λ w. IsFinite w.1.ty) U
       of_located [] h = tt
@@ -231,7 +240,7 @@ module _ (b : Context) (ls rs : List TypedName) (R S : Ty) (W V : List TypedVari
     v w = read g.types (memory_of (between s h k) w.0) w.1.variable w.1.ty
 
     abbrev bindings : Bool → Bool → List Binding
-    bindings l r = pushed (binding_of v) (bound_of_both l r o p) s.bound
+    bindings l r = pushed (binding_of v) (values_among l r o p G) s.bound
 
     abbrev here : Bool → Bool → State
     here l r = record (between s m n) { bound = bindings l r }
@@ -242,11 +251,11 @@ module _ (b : Context) (ls rs : List TypedName) (R S : Ty) (W V : List TypedVari
     state_over : (f e : List TypedName) → IsStateOf (reframed (outermost b) None (Some f) (Some e)) g (between s m n)
     state_over f e = record { logical = fit.logical; bound = fit.bound }
 
-    pub values_have : (l r : Bool) → AllByRecursion (λ w. has g.types w.1.ty (v w) ≡ true) (bound_of_both l r o p)
-    values_have l r = have_types b None (Some (frame_if l R)) (Some (frame_if r S)) g (fits_over (frame_if l R) (frame_if r S)) j fair (between s h k) (bound_of_both l r o p) (located_here l r)
+    pub values_have : (l r : Bool) → AllByRecursion (λ w. has g.types w.1.ty (v w) ≡ true) (values_among l r o p G)
+    values_have l r = have_types b None (Some (frame_if l R)) (Some (frame_if r S)) g (fits_over (frame_if l R) (frame_if r S)) j fair (between s h k) (values_among l r o p G) (located_here l r)
 
     pub fit_bindings : (l r : Bool) → FitBinders g.types (X l r) (bindings l r)
-    fit_bindings l r = fit_pushed b None (Some ls) (Some rs) g (fits_over ls rs) j fair v (bound_of_both l r o p) [] s.bound (values_have l r) tt
+    fit_bindings l r = fit_pushed b None (Some ls) (Some rs) g (fits_over ls rs) j fair v (values_among l r o p G) [] s.bound (values_have l r) tt
 
     -- what becomes of a memory by a result
     abbrev end : Bool → List Var → Value → Memory → Memory
@@ -333,9 +342,9 @@ module _ (b : Context) (ls rs : List TypedName) (R S : Ty) (W V : List TypedVari
             (all_append (IsTypedWrite P (inside l r) g (here l r)) A.all_writes_are B.all_writes_are A.typed B.typed)
             (all_writes b None (Some ls) (Some rs) g (fits_over ls rs) j fair P (X l r) (Y l r) (bindings l r) (between s m n) v G (around l r) inner (globals_innermost l r)
             (pushed_append (binding_of v) (result_of l o) (result_of r p ++ G) s.bound ∙ pushed_append (binding_of v) (result_of r p) G (pushed (binding_of v) (result_of l o) s.bound))
-            (globals_located ls rs W V left_globals right_globals) globals_alone)))
+            (among.located ls rs) globals_alone)))
             ∙ ap (den g j q) (written_both g (between s m n) us vs
-            ∙ ap (λ e. all_written g e us) (written_sides g s m n h k G (globals_on_sides W V) ∙ (λ i. between s (overwritten g.types (left_only W V i) h m) (overwritten g.types (right_only W V i) k n)))
+            ∙ ap (λ e. all_written g e us) (written_sides g s m n h k G (among.sides) ∙ (λ i. between s (overwritten g.types (among.left i) h m) (overwritten g.types (among.right i) k n)))
             ∙ written_both g (between s a c) A.all_writes_are B.all_writes_are
             ∙ ap (λ e. all_written g e A.all_writes_are) (B.ends (between s a c))
             ∙ A.ends (between s a (e c)))
@@ -343,16 +352,16 @@ module _ (b : Context) (ls rs : List TypedName) (R S : Ty) (W V : List TypedVari
 
         -- it says there what the form says after both calls
         return_means : (l r : Bool) → Covers g l (P side.Left) xs T W → Covers g r (P side.Right) ys U V → (q : Term) → IsForm d q → IsWithin (reading P) q →
-            den g j (of_both_returns l r o p q) (here l r) ≡ den g j q (between s (assigned g.types left_base xs left_value) (assigned g.types right_base ys right_value))
+            den g j (returns_among l r o p G q) (here l r) ≡ den g j q (between s (assigned g.types left_base xs left_value) (assigned g.types right_base ys right_value))
         return_means l r left_covers right_covers q w within =
             returned_means l r (end l xs left_value) (end r ys right_value) (left_side_of l o (left_depth l r)) (left_side_of r p (right_depth l r)) (left_returned l r left_side_alone) (right_returned l r right_side_alone)
             (assigned g.types left_base xs left_value) (assigned g.types right_base ys right_value) (left_reads l left_covers) (right_reads r right_covers) q w within
 
   -- what is said is said without a result that doesn't occur
   module _ (said q : Term) (l r : Bool) (said_narrow : IsForm (said_in l r) said) (end_form : IsForm d q) where
-    pub said_typed : IsForm (inside l r) (term_changed said (to_bound_values (bound_of_both l r o p)))
+    pub said_typed : IsForm (inside l r) (term_changed said (to_bound_values (values_among l r o p G)))
     said_typed =
-        sided_typed b (Some (frame_if l R)) (Some (frame_if r S)) (Some ls) (Some rs) (X l r) (Y l r) (bound_of_both l r o p) refl (on_sides l r) (located_here l r) (λ z. tt) (λ z. tt)
+        sided_typed b (Some (frame_if l R)) (Some (frame_if r S)) (Some ls) (Some rs) (X l r) (Y l r) (values_among l r o p G) refl (on_sides l r) (located_here l r) (λ z. tt) (λ z. tt)
         (λ x t k. subst (λ U. IsOneOf x U ⊎ IsIn (inside l r) (Some ls) x t) (sym (left_are l r)) (one_of l R W x t (said_in l r) (inside l r) ls (moved t ls) k))
         (λ x t k. subst (λ U. IsOneOf x U ⊎ IsIn (inside l r) (Some rs) x t) (sym (right_are l r)) (one_of r S V x t (said_in l r) (inside l r) rs (moved t rs) k)) said said_narrow
       where
@@ -361,17 +370,17 @@ module _ (b : Context) (ls rs : List TypedName) (R S : Ty) (W V : List TypedVari
         moved t f (var.Global m x) k = k
         moved t f (var.Glob a) k = k
 
-    return_typed : IsForm (inside l r) (of_both_returns l r o p q)
+    return_typed : IsForm (inside l r) (returns_among l r o p G q)
     return_typed =
         let none : Term → Value = λ e. Num 0 in
         let us = left_written l r none ++ right_written l r none in
         subst (λ cs. IsForm (inside l r) (term_changed q (cs ++ to_bound_values G))) (both_changes l r none none)
-        (values_typed b (Some ls) (Some rs) (X l r) (Y l r) G (around l r) (globals_innermost l r) (globals_located ls rs W V left_globals right_globals) us
+        (values_typed b (Some ls) (Some rs) (X l r) (Y l r) G (around l r) (globals_innermost l r) (among.located ls rs) us
         (all_append (IsTypedPut (inside l r)) (left_written l r none) (right_written l r none) (left_typed l r none) (right_typed l r none)) q end_form)
 
     -- for all results and all values of the globals
-    pub after_typed : IsForm d (after_both_where l r o p said q)
-    after_typed = for_all_typed b None (Some ls) (Some rs) (bound_of_both l r o p) [] [] (finite_types l r) _ (implies_typed (inside l r) _ _ said_typed return_typed)
+    pub after_typed : IsForm d (after_among l r o p G said q)
+    after_typed = for_all_typed b None (Some ls) (Some rs) (values_among l r o p G) [] [] (finite_types l r) _ (implies_typed (inside l r) _ _ said_typed return_typed)
 
     module _ (g : Setting) (fits : IsSettingOf (outermost b) g) (j : Judge) (fair : IsFair g j) (s : State) (fit : IsStateOf (outermost b) g s) (m n h k : Memory) (T U : List Var)
         (left_differs : DifferIn g.types T m (record { globals = h.globals; frame = m.frame })) (right_differs : DifferIn g.types U n (record { globals = k.globals; frame = n.frame }))
@@ -390,7 +399,7 @@ module _ (b : Context) (ls rs : List TypedName) (R S : Ty) (W V : List TypedVari
       over f e = fits_reframed (outermost b) g fits None (Some f) (Some e)
 
       -- What is said of the outcomes.
-      module _ (Q : Readable) (within : IsWithin (reading Q) said) (alone_said : AreAlone g Q (bound_of_both l r o p))
+      module _ (Q : Readable) (within : IsWithin (reading Q) said) (alone_said : AreAlone g Q (values_among l r o p G))
           (left_said : (y : Var) → Q side.Left y ≡ true → IsApart g T y ⊎ IsOneOf y W) (right_said : (y : Var) → Q side.Right y ≡ true → IsApart g U y ⊎ IsOneOf y V)
           (left_alone : AllByRecursion (λ w. IsAlone g w.variable (Q side.Left)) W) (right_alone : AllByRecursion (λ w. IsAlone g w.variable (Q side.Right)) V) where
         left_outcome : (l : Bool) (y : Var) (t : Ty) → IsIn (said_in l r) (Some (frame_if l R)) y t → Q side.Left y ≡ true → read g.types (overwritten g.types (variables_if l R W) h m) y t ≡ read g.types h y t
@@ -405,15 +414,15 @@ module _ (b : Context) (ls rs : List TypedName) (R S : Ty) (W V : List TypedVari
         right_outcome false y t i e =
             said_without_result b None (Some (frame_if l R)) (Some (frame_if false S)) g (over (frame_if l R) (frame_if false S)) n k U right_differs V right_globals (Q side.Right) right_said right_alone y t i e
 
-        pub said_means : den g j (term_changed said (to_bound_values (bound_of_both l r o p))) inner_state ≡ den g j said (between s h k)
+        pub said_means : den g j (term_changed said (to_bound_values (values_among l r o p G))) inner_state ≡ den g j said (between s h k)
         said_means =
-            let A : Memory = overwritten g.types (of_side side.Left (bound_of_both l r o p)) h m in
-            let B : Memory = overwritten g.types (of_side side.Right (bound_of_both l r o p)) k n in
-            ap (λ cs. den g j (term_changed said cs) inner_state) (sym (writes_are w (bound_of_both l r o p)))
+            let A : Memory = overwritten g.types (of_side side.Left (values_among l r o p G)) h m in
+            let B : Memory = overwritten g.types (of_side side.Right (values_among l r o p G)) k n in
+            ap (λ cs. den g j (term_changed said cs) inner_state) (sym (writes_are w (values_among l r o p G)))
             ∙ ap truth (meaning_inside b None (Some (frame_if l R)) (Some (frame_if r S)) (X l r) (Y l r) g (over (frame_if l R) (frame_if r S)) (between s m n) (record { logical = fit.logical; bound = fit.bound }) bound_here (fit_bindings g fits j fair s fit m n h k T U left_differs right_differs left_value right_value left_has right_has left_read right_read l r) j fair Q
-            said said_narrow.typed within (bound_writes w (bound_of_both l r o p))
-            (all_writes b None (Some (frame_if l R)) (Some (frame_if r S)) g (over (frame_if l R) (frame_if r S)) j fair Q (X l r) (Y l r) bound_here (between s m n) w (bound_of_both l r o p) [] s.bound refl refl (located_here l r) alone_said))
-            ∙ ap (den g j said) (written_sides g s m n h k (bound_of_both l r o p) (on_sides l r))
+            said said_narrow.typed within (bound_writes w (values_among l r o p G))
+            (all_writes b None (Some (frame_if l R)) (Some (frame_if r S)) g (over (frame_if l R) (frame_if r S)) j fair Q (X l r) (Y l r) bound_here (between s m n) w (values_among l r o p G) [] s.bound refl refl (located_here l r) alone_said))
+            ∙ ap (den g j said) (written_sides g s m n h k (values_among l r o p G) (on_sides l r))
             ∙ same_form b (Some (frame_if l R)) (Some (frame_if r S)) g fits j fair Q s A B h k
             (λ y t i e. ap (λ Z. read g.types (overwritten g.types Z h m) y t) (left_are l r) ∙ left_outcome l y t i e)
             (λ y t i e. ap (λ Z. read g.types (overwritten g.types Z k n) y t) (right_are l r) ∙ right_outcome r y t i e) said said_narrow within
@@ -422,12 +431,12 @@ module _ (b : Context) (ls rs : List TypedName) (R S : Ty) (W V : List TypedVari
         pub after_both_means : (P : Readable) → IsWithin (reading P) q → AllByRecursion (λ w. IsAlone g w.variable (P side.Left)) W → AllByRecursion (λ w. IsAlone g w.variable (P side.Right)) V →
             AllByRecursion (λ x. IsAlone g x (P side.Left)) xs → AllByRecursion (λ x. IsAlone g x (P side.Right)) ys → AreAlone g P G →
             Covers g l (P side.Left) xs T W → Covers g r (P side.Right) ys U V →
-            IsTrueUnder g j (after_both_where l r o p said q) (between s m n) → IsTrueUnder g j said (between s h k) →
+            IsTrueUnder g j (after_among l r o p G said q) (between s m n) → IsTrueUnder g j said (between s h k) →
             IsTrueUnder g j q (between s (assigned g.types (record { globals = h.globals; frame = m.frame }) xs left_value) (assigned g.types (record { globals = k.globals; frame = n.frame }) ys right_value))
         after_both_means P end_within la ra lsa rsa ga lc rc holds is_said =
-            let A : Term = term_changed said (to_bound_values (bound_of_both l r o p)) in
-            let B : Term = of_both_returns l r o p q in
+            let A : Term = term_changed said (to_bound_values (values_among l r o p G)) in
+            let B : Term = returns_among l r o p G q in
             sym (return_means g fits j fair s fit m n h k T U left_differs right_differs left_value right_value left_has right_has left_read right_read P la ra lsa rsa ga l r lc rc q end_form end_within)
             ∙ implies_use g j A B inner_state
-            (all_true b None (Some ls) (Some rs) g (over ls rs) j fair w (bound_of_both l r o p) s.bound (values_have g fits j fair s fit m n h k T U left_differs right_differs left_value right_value left_has right_has left_read right_read l r) (implies_form A B) (between s m n) holds)
+            (all_true b None (Some ls) (Some rs) g (over ls rs) j fair w (values_among l r o p G) s.bound (values_have g fits j fair s fit m n h k T U left_differs right_differs left_value right_value left_has right_has left_read right_read l r) (implies_form A B) (between s m n) holds)
             (said_means ∙ is_said)

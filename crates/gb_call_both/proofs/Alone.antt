@@ -16,11 +16,11 @@ use Rattle.gb_laws.specs.Written.{IsSide}
 use Rattle.gb_typing.specs.Forms.{IsAlone}
 use Rattle.gb_typing.specs.Puts.{Readable}
 use Rattle.gb_typing.proofs.Spared.{Clear}
-use Rattle.gb_prog.specs.AllValues.{in_memory, AreAlone}
+use Rattle.gb_prog.specs.AllValues.{Located, in_memory, AreAlone}
 use Rattle.gb_prog.specs.Writes.{TypedVariable}
 use Rattle.gb_call.specs.Outcomes.{is_among, is_read}
 use Rattle.gb_call.proofs.Callees.{alone_local}
-use Rattle.gb_call_both.specs.BothOutcomes.{bound_of_both}
+use Rattle.gb_call_both.specs.BothOutcomes.{values_among}
 use Rattle.gb_call_both.proofs.AfterBoth.{hidden}
 
 -- where fewer variables may be read, one is alone still
@@ -38,12 +38,12 @@ both_alone g P [] [] h k = tt
 both_alone g P [] (v ∷ V) h k = (k.0, both_alone g P [] V h k.1)
 both_alone g P (w ∷ W) V h k = (h.0, both_alone g P W V h.1 k)
 
-pub results_alone : (g : Setting) (P : Readable) (l r : Bool) (xs ys : List Var) (R S : Ty) (W V : List TypedVariable) → AreAlone g P (in_memory side.Left W ++ in_memory side.Right V) →
-    AreAlone g P (bound_of_both l r (record { side = side.Left; targets = xs; result = R; globals = W }) (record { side = side.Right; targets = ys; result = S; globals = V }))
-results_alone g P true true xs ys R S W V h = ((λ y p f. alone_local g result_name y f), ((λ y p f. alone_local g result_name y f), h))
-results_alone g P true false xs ys R S W V h = ((λ y p f. alone_local g result_name y f), h)
-results_alone g P false true xs ys R S W V h = ((λ y p f. alone_local g result_name y f), h)
-results_alone g P false false xs ys R S W V h = h
+pub results_alone : (g : Setting) (P : Readable) (l r : Bool) (xs ys : List Var) (R S : Ty) (W V : List TypedVariable) (G : List Located) → AreAlone g P G →
+    AreAlone g P (values_among l r (record { side = side.Left; targets = xs; result = R; globals = W }) (record { side = side.Right; targets = ys; result = S; globals = V }) G)
+results_alone g P true true xs ys R S W V G h = ((λ y p f. alone_local g result_name y f), ((λ y p f. alone_local g result_name y f), h))
+results_alone g P true false xs ys R S W V G h = ((λ y p f. alone_local g result_name y f), h)
+results_alone g P false true xs ys R S W V G h = ((λ y p f. alone_local g result_name y f), h)
+results_alone g P false false xs ys R S W V G h = h
 
 -- a result that doesn't occur isn't read
 pub hidden_clear : (r : Side) (is : IsSide r) (b : Bool) (said : Term) → (b ≡ false → is_read r said (var.Local result_name) ≡ false) → Clear r is (hidden b) (variables_read r said)

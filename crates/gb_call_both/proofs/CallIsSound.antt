@@ -77,7 +77,7 @@ use Rattle.gb_call.proofs.Conditions.{IsSpared, nothing_least, after_spared, sai
 use Rattle.gb_call.proofs.LastCalls.{IsCalled}
 use Rattle.gb_call_both.specs.BothOutcomes.{after_both, bound_of_both, of_both_arguments}
 use Rattle.gb_call_both.specs.Call.{before_both, both_goals, by_both_globals, call_row, clash_after_both, of_callees, on_two, AreContracts, IsContractOf, IsTypedContract}
-use Rattle.gb_call_both.proofs.AfterBoth.{Covers, after_both_means, after_typed, frame_if, hidden, moves}
+use Rattle.gb_call_both.proofs.AfterBoth.{Covers, after_both_means, after_typed, frame_if, globals_among, hidden, moves}
 use Rattle.gb_call_both.proofs.Alone.{both_alone, fewer_read, fewer_targets, hidden_clear, results_alone}
 use Rattle.gb_call_both.proofs.ArgumentsOfBoth.{arguments_typed, arguments_meaning}
 use Rattle.gb_call_both.proofs.NarrowedSides.{sides_typed}
@@ -178,7 +178,7 @@ module _ (ds : Declarations) (scoped : IsTypedScope (declared ds)) (t : Sequent)
       after_form : IsForm (reframed (outermost c) None (Some ls) (Some rs)) (after_both o u s.post q)
       after_form =
           after_typed c ls rs a.result e.result W V left_are.1 right_are.1 (callees.finite_result ds scoped t typed outer ls is w.1 k left_last a left_found T left_known)
-          (callees.finite_result ds scoped t typed outer rs js w.2 l right_last e right_found U right_known) k.targets l.targets left_takes right_takes left_few right_few
+          (callees.finite_result ds scoped t typed outer rs js w.2 l right_last e right_found U right_known) k.targets l.targets left_takes right_takes left_few right_few (in_memory side.Left W ++ in_memory side.Right V) (globals_among c W V left_are.1 right_are.1)
           s.post q left_occurs right_occurs said_narrow end_form
 
       abbrev left_call : IsCall c ls k.targets (Some (type_of_procedure a)) k.arguments
@@ -317,10 +317,10 @@ module _ (ds : Declarations) (scoped : IsTypedScope (declared ds)) (t : Sequent)
           ends : IsTrueUnder g j q (between v (returned g k.targets m h) (returned g l.targets n i))
           ends =
               after_both_means c ls rs a.result e.result W V left_are.1 right_are.1 (callees.finite_result ds scoped t typed outer ls is w.1 k left_last a left_found T left_known)
-              (callees.finite_result ds scoped t typed outer rs js w.2 l right_last e right_found U right_known) k.targets l.targets left_takes right_takes left_few right_few
+              (callees.finite_result ds scoped t typed outer rs js w.2 l right_last e right_found U right_known) k.targets l.targets left_takes right_takes left_few right_few (in_memory side.Left W ++ in_memory side.Right V) (globals_among c W V left_are.1 right_are.1)
               s.post q left_occurs right_occurs said_narrow end_form
               g fits_there j fair v state_there m n h i T U left_outcome.1 right_outcome.1 (result_in h) (result_in i) left_outcome.0.0 right_outcome.0.0 left_outcome.0.1 right_outcome.0.1
-              Q said_within (results_alone g Q left_occurs right_occurs k.targets l.targets a.result e.result W V (both_alone g Q W V left_said_globals right_said_globals))
+              Q said_within (results_alone g Q left_occurs right_occurs k.targets l.targets a.result e.result W V (in_memory side.Left W ++ in_memory side.Right V) (both_alone g Q W V left_said_globals right_said_globals))
               (λ z f. said_read side.Left tt k.targets T s.post q left_occurs W left_are.0 g (exclusions ds) off left_said z (left_said_read z f))
               (λ z f. said_read side.Right tt l.targets U s.post q right_occurs V right_are.0 g (exclusions ds) off right_said z (right_said_read z f))
               left_said_globals right_said_globals

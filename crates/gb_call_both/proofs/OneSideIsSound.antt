@@ -86,7 +86,7 @@ use Rattle.gb_call.proofs.Conditions.{IsSpared, nothing_least, after_spared, sai
 use Rattle.gb_call.proofs.LastCalls.{IsCalled}
 use Rattle.gb_call_both.specs.BothOutcomes.{after_both_where, of_both_arguments}
 use Rattle.gb_call_both.specs.OneSide.{judged, lost, on_one_side, on_side, side_goals}
-use Rattle.gb_call_both.proofs.AfterBoth.{Covers, after_both_means, after_typed, frame_if, hidden, moves}
+use Rattle.gb_call_both.proofs.AfterBoth.{Covers, after_both_means, after_typed, frame_if, globals_among, hidden, moves}
 use Rattle.gb_call_both.proofs.Alone.{both_alone, hidden_clear, results_alone}
 use Rattle.gb_call_both.proofs.ArgumentsOfBoth.{arguments_typed, arguments_meaning}
 use Rattle.gb_call_both.proofs.NarrowedSides.{sides_typed}
@@ -311,7 +311,7 @@ module _ (ds : Declarations) (scoped : IsTypedScope (declared ds)) (t : Sequent)
       left_after_form : IsForm left_context (after_call AtLeast left_outcome left_said q)
       left_after_form =
           subst (IsForm left_context) (sym (left_after left_occurs k.call.targets R W left_said q))
-          (after_typed c ks rs R R W [] left_are.1 tt finite finite k.call.targets [] takes tt few (omega arith) left_said q left_occurs false left_narrow left_end)
+          (after_typed c ks rs R R W [] left_are.1 tt finite finite k.call.targets [] takes tt few (omega arith) (in_memory side.Left W ++ in_memory side.Right []) (globals_among c W [] left_are.1 tt) left_said q left_occurs false left_narrow left_end)
 
       left_pre : IsForm (with_sides c (Some k.declared.params) (Some [])) (located side.Left s.pre)
       left_pre =
@@ -360,9 +360,9 @@ module _ (ds : Declarations) (scoped : IsTypedScope (declared ds)) (t : Sequent)
         left_ends m n h x after said =
             let S = left_spared in
             let Z = left_said_spared in
-            after_both_means c ks rs R R W [] left_are.1 tt finite finite k.call.targets [] takes tt few (omega arith) left_said q left_occurs false left_narrow left_end
+            after_both_means c ks rs R R W [] left_are.1 tt finite finite k.call.targets [] takes tt few (omega arith) (in_memory side.Left W ++ in_memory side.Right []) (globals_among c W [] left_are.1 tt) left_said q left_occurs false left_narrow left_end
             g left_fits j fair v left_state m n h (record { globals = n.globals; frame = h.frame }) k.written [] x.1 (λ z u. refl) (result_in h) (result_in h) x.0.0 x.0.0 x.0.1 x.0.1
-            Z.readable Z.within (results_alone g Z.readable left_occurs false k.call.targets [] R R W [] (both_alone g Z.readable W [] left_said_globals tt))
+            Z.readable Z.within (results_alone g Z.readable left_occurs false k.call.targets [] R R W [] (in_memory side.Left W ++ in_memory side.Right []) (both_alone g Z.readable W [] left_said_globals tt))
             (λ z f. said_read side.Left tt k.call.targets k.written left_said q left_occurs W left_are.0 g (exclusions ds) left_off left_said_spared z f) (λ z f. inl tt) left_said_globals tt
             S.readable S.within left_globals tt left_targets tt (both_alone g S.readable W [] left_globals tt)
             (covers side.Left tt q left_said left_context left_said_context left_end.typed left_said_form.typed few clear W types g left_off left_occurs refl) (λ z f. (tt, inl tt))
@@ -438,7 +438,7 @@ module _ (ds : Declarations) (scoped : IsTypedScope (declared ds)) (t : Sequent)
       right_after_form : IsForm right_context (after_call AtLeast right_outcome right_said q)
       right_after_form =
           subst (IsForm right_context) (sym (right_after right_occurs k.call.targets R W right_said q))
-          (after_typed c ls ks R R [] W tt right_are.1 finite finite [] k.call.targets tt takes (omega arith) few right_said q false right_occurs right_narrow right_end)
+          (after_typed c ls ks R R [] W tt right_are.1 finite finite [] k.call.targets tt takes (omega arith) few (in_memory side.Left [] ++ in_memory side.Right W) (globals_among c [] W tt right_are.1) right_said q false right_occurs right_narrow right_end)
 
       right_pre : IsForm (with_sides c (Some []) (Some k.declared.params)) (located side.Right s.pre)
       right_pre =
@@ -487,9 +487,9 @@ module _ (ds : Declarations) (scoped : IsTypedScope (declared ds)) (t : Sequent)
         right_ends m n h x after said =
             let S = right_spared in
             let Z = right_said_spared in
-            after_both_means c ls ks R R [] W tt right_are.1 finite finite [] k.call.targets tt takes (omega arith) few right_said q false right_occurs right_narrow right_end
+            after_both_means c ls ks R R [] W tt right_are.1 finite finite [] k.call.targets tt takes (omega arith) few (in_memory side.Left [] ++ in_memory side.Right W) (globals_among c [] W tt right_are.1) right_said q false right_occurs right_narrow right_end
             g right_fits j fair v right_state m n (record { globals = m.globals; frame = h.frame }) h [] k.written (λ z u. refl) x.1 (result_in h) (result_in h) x.0.0 x.0.0 x.0.1 x.0.1
-            Z.readable Z.within (results_alone g Z.readable false right_occurs [] k.call.targets R R [] W (both_alone g Z.readable [] W tt right_said_globals))
+            Z.readable Z.within (results_alone g Z.readable false right_occurs [] k.call.targets R R [] W (in_memory side.Left [] ++ in_memory side.Right W) (both_alone g Z.readable [] W tt right_said_globals))
             (λ z f. inl tt) (λ z f. said_read side.Right tt k.call.targets k.written right_said q right_occurs W right_are.0 g (exclusions ds) right_off right_said_spared z f) tt right_said_globals
             S.readable S.within tt right_globals tt right_targets (both_alone g S.readable [] W tt right_globals)
             (λ z f. (tt, inl tt)) (covers side.Right tt q right_said right_context right_said_context right_end.typed right_said_form.typed few clear W types g right_off right_occurs refl)

@@ -31,25 +31,40 @@ result_of false o = []
 abbrev pub globals_of : Outcome → Outcome → List Located
 globals_of o p = in_memory o.side o.globals ++ in_memory p.side p.globals
 
--- the variables of which all values are meant: the results, where they occur, and the globals
-abbrev pub bound_of_both : Bool → Bool → Outcome → Outcome → List Located
-bound_of_both b d o p = result_of b o ++ (result_of d p ++ globals_of o p)
-
 -- a result, with so many variables bound inside of it, goes to the left side, where it occurs
 abbrev pub left_side_of : Bool → Outcome → ℕ → Changes
 left_side_of true o n = put_in o.side o.targets (taken o.targets (node (Bound n) [] o.result))
 left_side_of false o n = []
 
-abbrev pub left_sides : Bool → Bool → Outcome → Outcome → Changes
-left_sides b d o p = left_side_of b o (length (result_of d p ++ globals_of o p)) ++ left_side_of d p (length (globals_of o p))
+-- the variables of which all values are meant: the results, where they occur, and those of a list
+abbrev pub values_among : Bool → Bool → Outcome → Outcome → List Located → List Located
+values_among b d o p G = result_of b o ++ (result_of d p ++ G)
+
+-- the results go to the left sides
+abbrev pub results_among : Bool → Bool → Outcome → Outcome → List Located → Changes
+results_among b d o p G = left_side_of b o (length (result_of d p ++ G)) ++ left_side_of d p (length G)
 
 -- what is said after the calls, of the bound values
+abbrev pub returns_among : Bool → Bool → Outcome → Outcome → List Located → Term → Term
+returns_among b d o p G f = term_changed f (results_among b d o p G ++ to_bound_values G)
+
+-- what is said of the bound values leads to it
+abbrev pub after_among : Bool → Bool → Outcome → Outcome → List Located → Term → Term → Term
+after_among b d o p G said f =
+    for_all (values_among b d o p G) (implies_form (term_changed said (to_bound_values (values_among b d o p G))) (returns_among b d o p G f))
+
+-- the same of the globals of both outcomes
+abbrev pub bound_of_both : Bool → Bool → Outcome → Outcome → List Located
+bound_of_both b d o p = values_among b d o p (globals_of o p)
+
+abbrev pub left_sides : Bool → Bool → Outcome → Outcome → Changes
+left_sides b d o p = results_among b d o p (globals_of o p)
+
 abbrev pub of_both_returns : Bool → Bool → Outcome → Outcome → Term → Term
-of_both_returns b d o p f = term_changed f (left_sides b d o p ++ to_bound_values (globals_of o p))
+of_both_returns b d o p f = returns_among b d o p (globals_of o p) f
 
 abbrev pub after_both_where : Bool → Bool → Outcome → Outcome → Term → Term → Term
-after_both_where b d o p said f =
-    for_all (bound_of_both b d o p) (implies_form (term_changed said (to_bound_values (bound_of_both b d o p))) (of_both_returns b d o p f))
+after_both_where b d o p said f = after_among b d o p (globals_of o p) said f
 
 -- For all results and all values of the globals that the procedures write, what is said of both outcomes leads to what is said after the
 -- calls. A quantifier stands only where its variable occurs: first those of the results, then those of the globals, left before right.

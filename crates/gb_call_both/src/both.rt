@@ -1,6 +1,6 @@
 //! What is said before two calls, one on each side, of what is to hold after both.
 
-ghost use Rattle.std.specs.Prelude.{◌≡◌, ◌++◌, map, IfOk};
+ghost use Rattle.std.specs.Prelude.{◌≡◌, ◌++◌, length, map, IfOk};
 ghost use Rattle.gb_prog.specs.AllValues.{for_all, in_memory, to_bound_values};
 ghost use Rattle.gb_walk.specs.Clash.{variables_read};
 ghost use Rattle.gb_call_both.specs.BothOutcomes.{after_both, after_both_where, bound_of_both, bound_seen, globals_of, left_side_of, left_sides, of_both_arguments, of_both_returns, result_of};
@@ -175,6 +175,21 @@ pub fn left_side_within(
     put_in(alloc, outcome.side, outcome.targets, values.as_slice())
 }
 
+/// How many variables are bound inside of the left result.
+#[tactic(auto, using(crate::proofs::BothSteps::seen_length))]
+fn bound_inside(
+    alloc: Global,
+    occurs: bool,
+    left: &Outcome<'_>,
+    right: &Outcome<'_>,
+) -> Result<usize, AllocError>
+    ensures { IfOk result (λ count. count ≡ length (result_of occurs (outcome_seen right.now) ++ globals_of (outcome_seen left.now) (outcome_seen right.now))) }
+{
+    let all = with_result(alloc, Items::new(alloc), occurs, right)?;
+    let all = globals_of(alloc, all, left, right)?;
+    Ok(all.len())
+}
+
 /// Both results go to the left sides, where they occur.
 #[tactic(auto, using(crate::proofs::BothSteps::seen_length))]
 fn left_sides(
@@ -187,9 +202,8 @@ fn left_sides(
     requires { map bound_seen globals.now ≡ globals_of (outcome_seen left.now) (outcome_seen right.now) }
     ensures { IfOk result (λ made. made ≡ left_sides occur.0 occur.1 (outcome_seen left.now) (outcome_seen right.now)) }
 {
-    let within = with_result(alloc, Items::new(alloc), occur.1, right)?;
-    let within = globals_of(alloc, within, left, right)?;
-    let mut changes = left_side_within(alloc, occur.0, left, within.len())?;
+    let inside = bound_inside(alloc, occur.1, left, right)?;
+    let mut changes = left_side_within(alloc, occur.0, left, inside)?;
     changes.append(left_side_within(alloc, occur.1, right, globals.len())?)?;
     Ok(changes)
 }

@@ -112,10 +112,11 @@ fn do_both(
     ensures { IfOk result (λ made. made ≡
         form_of (equiv (procedure (callee_seen left.now).call.procedure) (procedure (callee_seen right.now).call.procedure) contract.now.pre contract.now.post)) }
 {
-    let first = Subject::Proc(left.call.procedure.share()?);
-    let second = Subject::Proc(right.call.procedure.share()?);
+    let left = left.call.procedure.share()?;
+    let right = right.call.procedure.share()?;
     let pre = contract.pre.share()?;
     let post = contract.post.share()?;
+    let (first, second) = (Subject::Proc(left), Subject::Proc(right));
     equiv_of(alloc, &first, &second, pre, post)
 }
 

@@ -10,15 +10,16 @@ ghost use Rattle.gb_goal.specs.Views.{goal_seen};
 ghost use Rattle.gb_prog.specs.OneBody.{filled, one_seen, side_of};
 ghost use Rattle.gb_full.specs.Lossless.{full};
 ghost use Rattle.gb_walk.specs.Clash.{variables_read};
-ghost use Rattle.gb_call.specs.Call.{callee_of, callee_seen, left_of};
+ghost use Rattle.gb_mods.specs.Exclusions.{exclusions};
+ghost use Rattle.gb_call.specs.Call.{callee_of, callee_seen, left_of, unless_clash};
 ghost use Rattle.gb_call.specs.LastCall.{call_seen};
-ghost use Rattle.gb_call.specs.Outcomes.{globals_seen};
+ghost use Rattle.gb_call.specs.Outcomes.{clash_after, globals_seen};
 ghost use Rattle.gb_call.specs.Written.{with_types};
-ghost use Rattle.gb_call_both.specs.OneSide.{by_side_callee, by_side_globals, head_speaks, judged, lost, of_side_callee, on_one_side, on_side, side_goals, speaks};
+ghost use Rattle.gb_call_both.specs.OneSide.{by_side_callee, by_side_globals, head_speaks, judged, lost, of_side_callee, on_one_side, on_side, side_goals, speaks, where_full};
 
 use gb_call::call::{
-    Callee, MANY, before_call, callee_of, clash_after, does, does_as_likely, known_call,
-    read_after, side_condition,
+    Callee, MANY, before_call, callee_of, clash_in, does, does_as_likely, known_call, read_after,
+    side_condition,
 };
 use gb_call::last_call::{Last, last_call};
 use gb_call::written::TypedGlobal;
@@ -30,7 +31,6 @@ use gb_full::lossless::full;
 use gb_goal::goal::Goal;
 use gb_goal::scope::Scope;
 use gb_goal::sequent::{Sequent, Sequents};
-use gb_mods::exclusions::exclusions;
 use gb_prog::forms::located;
 use gb_prog::one_body::{OneBody, filled, one_body, side_of};
 use gb_prog::subgoals::{no_shape, shared_body, two_goals};
@@ -54,7 +54,7 @@ fn head_speaks(head: &Head) -> bool
 /// Whether a form speaks of programs, or of every memory.
 #[cycle(speaking)]
 #[tactic(auto, using(crate::proofs::SideSteps::speaks_out))]
-fn speaks(term: &Term) -> bool
+pub fn speaks(term: &Term) -> bool
     ensures { result ≡ speaks term.now }
 {
     head_speaks(term.head.get()) || any_speaks(term.args.as_slice())
@@ -164,8 +164,8 @@ fn side_goals(
         saying.here,
         one.post,
     )?;
-    let first = judged(alloc, saying.surely, callee.call.procedure, saying.contract)?;
     let second = leads(alloc, one, callee, before)?;
+    let first = judged(alloc, saying.surely, callee.call.procedure, saying.contract)?;
     two_goals(alloc, goal, first, second)
 }
 
@@ -190,6 +190,31 @@ fn by_globals(
     Ok(side_goals(alloc, goal, one, saying, &read.reads, globals)?)
 }
 
+/// The subgoals of a call of a procedure of which this is said.
+fn by_saying(
+    alloc: Global,
+    goal: &Sequent,
+    scope: &Scope,
+    one: &OneBody<'_>,
+    saying: &Saying<'_>,
+) -> Result<Sequents, Refused>
+    requires { saying.now.here.now ≡ on_side (side_of one.now.around) saying.now.contract.now }
+    ensures { Answers (each_concluding goal.now
+        (unless_clash (clash_after (exclusions scope.now) (side_of one.now.around) (callee_seen saying.now.callee.now).call.targets (callee_seen saying.now.callee.now).written
+        (on_side (side_of one.now.around) saying.now.contract.now).post one.now.post.now)
+        (where_full (lost scope.now (option_copied saying.now.surely) (callee_seen saying.now.callee.now).call.procedure)
+        (by_side_globals (option_copied saying.now.surely) saying.now.contract.now (one_seen one.now) (callee_seen saying.now.callee.now)
+        (with_types scope.now (left_of (side_of one.now.around) (callee_seen saying.now.callee.now) (on_side (side_of one.now.around) saying.now.contract.now) one.now.post.now)))))) result }
+{
+    let side = side_of(one.around);
+    let callee = saying.callee;
+    if let Some(var) = clash_in(alloc, side, scope, callee, saying.here, one.post)? {
+        return Err(side_condition(alloc, var));
+    }
+    full_call(alloc, scope, saying.surely, callee.call.procedure)?;
+    by_globals(alloc, goal, scope, one, saying)
+}
+
 /// The subgoals of a call of a procedure.
 fn by_callee(
     alloc: Global,
@@ -210,18 +235,13 @@ fn by_callee(
     }
     let side = side_of(one.around);
     let here = on_side(alloc, side, contract)?;
-    let excluded = exclusions(alloc, scope)?;
-    if let Some(var) = clash_after(excluded.as_slice(), side, callee, &here, one.post) {
-        return Err(side_condition(alloc, var));
-    }
-    full_call(alloc, scope, surely, callee.call.procedure)?;
     let saying = Saying {
         callee,
         contract,
         here: &here,
         surely,
     };
-    by_globals(alloc, goal, scope, one, &saying)
+    by_saying(alloc, goal, scope, one, &saying)
 }
 
 /// The subgoals on the body on which the rule acts, where it ends with this call.

@@ -294,7 +294,7 @@ module _ (ds : scope.Declarations) (scoped : IsTypedScope (declared ds)) (q : Se
   rule_forms : (n : Kind) (x : List ℕ) (xs : List Node) (p : Place) (k : Rule) → typed_rule ds q n x xs p ≡ given k → HasForms k
   rule_forms text.PlainStep x [] p k h =
       let o = given_bind (conclusion_rule x p) (λ (a : AmbientRule). given (rule.Ambient a)) k h in brings o.0 (plain_typed x p o.0 o.1) k (given_is (rule.Ambient o.0) k o.2)
-  rule_forms text.CallStep x (b ∷ n ∷ []) p k h = of_call ds q HasForms (λ s. tt) (λ a n f e lemmas alone. (used_typed ds scoped q t lemmas alone n f e, tt)) (λ n f e. tt) tt (acts (parts_of b)) (head_of n) (parts_of n) p k h
+  rule_forms text.CallStep x (b ∷ n ∷ []) p k h = of_call ds q HasForms (λ s. tt) (λ a n f e lemmas alone. (used_typed ds scoped q t lemmas alone n f e, tt)) (λ n f e. tt) (λ m n u e. tt) tt (acts (parts_of b)) (head_of n) (parts_of n) p k h
   rule_forms text.WhileStep x (b ∷ f ∷ []) p k h = of_while ds q HasForms (λ v. tt) tt (acts (parts_of b)) f k h
   rule_forms text.Inline x (b ∷ n ∷ []) p k h = of_inlining HasForms (λ a t. tt) ds q (acts (parts_of b)) (parts_of n) p k h
   rule_forms text.ByStep x (m ∷ n ∷ []) p k h = of_by ds q m n HasForms (λ b e z g. tt) (λ b e z g. tt) tt x p k h

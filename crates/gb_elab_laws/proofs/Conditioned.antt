@@ -116,6 +116,6 @@ pub conditions_typed : (ds : scope.Declarations) → IsTypedScope (declared ds) 
     IsTypedRule (of_sequent (context_of (declared ds)) q t.frames) s.rule ls rs (goal_of q.conclusion)
 conditions_typed ds scoped q t n s h ls rs w =
     of_step ds q (λ k. IsTypedRule (of_sequent (context_of (declared ds)) q t.frames) k ls rs (goal_of q.conclusion)) (others ds scoped q t ls rs)
-    (of_call ds q (λ k. IsTypedRule (of_sequent (context_of (declared ds)) q t.frames) k ls rs (goal_of q.conclusion)) (λ s. tt) (λ a n f e. tt) (λ n f e. tt) tt)
+    (of_call ds q (λ k. IsTypedRule (of_sequent (context_of (declared ds)) q t.frames) k ls rs (goal_of q.conclusion)) (λ s. tt) (λ a n f e. tt) (λ n f e. tt) (λ m n u e. tt) tt)
     (of_entering ds q (λ k. IsTypedRule (of_sequent (context_of (declared ds)) q t.frames) k ls rs (goal_of q.conclusion)) (λ a. tt) (λ n f e. tt) tt) (by_typed ds scoped q t ls rs w)
     (λ e. of_splitting ds q e (λ k. IsTypedRule (of_sequent (context_of (declared ds)) q t.frames) k ls rs (goal_of q.conclusion)) (λ f i u g. tt) tt) n s h

@@ -51,7 +51,7 @@ use Rattle.gb_elab_laws.proofs.EventLaws.{of_splitting}
 use Rattle.gb_elab_laws.proofs.Forms.{elaborated_typed}
 use Rattle.gb_elab_laws.proofs.Given.{given_bind, given_is}
 use Rattle.gb_elab_laws.proofs.Judged.{condition as conditions}
-use Rattle.gb_elab_laws.proofs.Keeping.{of_entering, of_kept}
+use Rattle.gb_elab_laws.proofs.Keeping.{of_entering, of_kept, of_until}
 use Rattle.gb_elab_laws.proofs.OneProcedure.{condition}
 use Rattle.gb_elab_laws.proofs.Steps.{IsOther, of_step}
 
@@ -190,6 +190,7 @@ module _ (ds : scope.Declarations) (scoped : IsTypedScope (declared ds)) (q : Se
     call_typed : (a : Acts) (n : Kind) (ns : List Node) (p : Place) (k : Rule) → call_rule ds q a n ns p ≡ given k → CallTyped k
     call_typed a text.CallContract (m ∷ n ∷ []) p k h = at_goal (goal_of q.conclusion) refl w a m n k h
     call_typed a text.CallInvariant (n ∷ []) p k h = of_kept ds q CallTyped calls_by tt (λ n f e. tt) a n k h
+    call_typed a text.CallUpto (m ∷ n ∷ []) p k h = of_until ds q CallTyped tt (λ m n u e. tt) a m n k h
     call_typed a text.CallLemma (n ∷ []) p k h =
         let x = given_bind (used ds q n) (λ (f : Term). given (rule.CallKnown a f)) k h in subst CallTyped (given_is (rule.CallKnown a x.0) k x.2) tt
     call_typed a _ _ p k h = cc

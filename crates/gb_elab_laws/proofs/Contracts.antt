@@ -19,6 +19,7 @@ use Rattle.gb_steps.specs.declared.step.Contract.{Contract}
 use Rattle.gb_steps.specs.declared.step.Rule.{Rule}
 use Rattle.gb_steps.specs.declared.step.AbstractRule.TheVariants as abstract_rule
 use Rattle.gb_steps.specs.declared.step.Rule.TheVariants as rule
+use Rattle.gb_steps.specs.declared.step.Until.{Until}
 use Rattle.gb_script.specs.declared.head.Head.{Head as Kind}
 use Rattle.gb_script.specs.declared.head.Head.TheVariants as text
 use Rattle.gb_script.specs.declared.tree.Node.{Node}
@@ -27,11 +28,11 @@ use Rattle.gb_elab.specs.Forms.{elaborated}
 use Rattle.gb_elab_mod.specs.OnPrograms.{call_rule, calls_by, contract_at, contract_of, contract_of_both, contract_on, last_procedure, params_if, result_if}
 use Rattle.gb_elab_mod.specs.Uses.{used}
 use Rattle.gb_elab_laws.proofs.Given.{given_bind, given_is}
-use Rattle.gb_elab_laws.proofs.Keeping.{IsKept, of_kept}
+use Rattle.gb_elab_laws.proofs.Keeping.{IsKept, IsUntil, of_kept, of_until}
 
 -- It is a step of `call`, by what is said, by what is known or by what oracles keep, or one that fits no goal.
 module _ (ds : Declarations) (q : Sequent) (P : Rule → Type 0) (called : (s : Contract) → P (rule.Call s)) (known : (a : Acts) (n : Node) (f : Term) → used ds q n ≡ given f → P (rule.CallKnown a f))
-    (kept : (n : Node) (f : Term) → IsKept ds q n f → P (rule.Abstract (abstract_rule.Call f))) (unfit : P (rule.OnBodies on_bodies.Unfit)) where
+    (kept : (n : Node) (f : Term) → IsKept ds q n f → P (rule.Abstract (abstract_rule.Call f))) (until : (m n : Node) (u : Until) → IsUntil ds q m n u → P (rule.Abstract (abstract_rule.CallUntil u))) (unfit : P (rule.OnBodies on_bodies.Unfit)) where
   of_contract : (a : Acts) (m n : Node) (o : Option ProcRef) (k : Rule) → contract_of ds q a m n o ≡ given k → P k
   unfolding contract_of
   of_contract a m n None k h = subst P (given_is (rule.OnBodies on_bodies.Unfit) k h) unfit
@@ -67,6 +68,7 @@ module _ (ds : Declarations) (q : Sequent) (P : Rule → Type 0) (called : (s : 
   pub of_call : (a : Acts) (n : Kind) (ns : List Node) (p : Place) (k : Rule) → call_rule ds q a n ns p ≡ given k → P k
   of_call a text.CallContract (m ∷ n ∷ []) p k h = at_goal a m n (goal_of q.conclusion) k h
   of_call a text.CallInvariant (n ∷ []) p k h = of_kept ds q P calls_by unfit kept a n k h
+  of_call a text.CallUpto (m ∷ n ∷ []) p k h = of_until ds q P unfit until a m n k h
   of_call a text.CallLemma (n ∷ []) p k h =
       let x = given_bind (used ds q n) (λ (f : Term). given (rule.CallKnown a f)) k h in subst P (given_is (rule.CallKnown a x.0) k x.2) (known a n x.0 x.1)
   of_call a _ _ p k h = cc

@@ -64,7 +64,7 @@ module _ (ds : scope.Declarations) (scoped : IsTypedScope (declared ds)) (q : Se
 
   event_typed : (n : Node) (s : Step) → step_given ds q n ≡ given s → HasEvent s.rule
   event_typed n s h =
-      of_step ds q HasEvent others (of_call ds q HasEvent (λ s. tt) (λ a n f e. tt) (λ n f e. tt) tt) (of_entering ds q HasEvent (λ a. tt) (λ n f e. tt) tt)
+      of_step ds q HasEvent others (of_call ds q HasEvent (λ s. tt) (λ a n f e. tt) (λ n f e. tt) (λ m n u e. tt) tt) (of_entering ds q HasEvent (λ a. tt) (λ n f e. tt) tt)
       (λ m n. of_by ds q m n HasEvent (λ b e z g. tt) (λ b e z g. tt) tt)
       (λ e. of_splitting ds q e HasEvent (λ f d u g. after_typed e f (known_there f d) u g) tt) n s h
 

@@ -284,7 +284,7 @@ module _ (ds : scope.Declarations) (scoped : IsTypedScope (declared ds)) (q : Se
           let y = given_bind (conseq_rule ds q (acts (parts_of b)) (parts_of f) (parts_of g) (parts_of d)) (λ z. given (rule.OnBodies z)) k h in
           other (rule.OnBodies y.0) k refl (given_is (rule.OnBodies y.0) k y.2)
       of_rule text.CallStep x (b ∷ n ∷ []) p k h =
-          of_call ds q Asked (λ s. tt) (λ a n f e. tt) (λ n f e. tt) tt (acts (parts_of b)) (head_of n) (parts_of n) p k h
+          of_call ds q Asked (λ s. tt) (λ a n f e. tt) (λ n f e. tt) (λ m n u e. tt) tt (acts (parts_of b)) (head_of n) (parts_of n) p k h
       of_rule text.Transitivity x (b ∷ n ∷ []) p k h = transitive_typed ds scoped q t ls rs w (acts (parts_of b)) (head_of n) (parts_of n) p k h
       of_rule text.PlainStep x [] p k h =
           let o = given_bind (conclusion_rule x p) (λ (a : AmbientRule). given (rule.Ambient a)) k h in other (rule.Ambient o.0) k refl (given_is (rule.Ambient o.0) k o.2)

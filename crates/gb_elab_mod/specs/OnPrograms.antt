@@ -29,6 +29,7 @@ use Rattle.gb_steps.specs.declared.step.Acts.{Acts}
 use Rattle.gb_steps.specs.declared.step.Acts.TheVariants as on
 use Rattle.gb_steps.specs.declared.step.Cut.{Cut}
 use Rattle.gb_steps.specs.declared.step.Cut.TheVariants as cut
+use Rattle.gb_steps.specs.declared.step.Until.{Until}
 use Rattle.gb_goal.specs.Goal.{Code, Goal, goal_of}
 use Rattle.gb_goal.specs.Goal.Code.{body, procedure}
 use Rattle.gb_goal.specs.Goal.Goal.{hoare, phoare, equiv}
@@ -342,17 +343,36 @@ abbrev pub procedures_by : Option Term → Rule
 procedures_by (Some f) = rule.Abstract (abstract_rule.Proc f)
 procedures_by None = rule.OnBodies on_bodies.Unfit
 
+-- What a step says that oracles keep until an event has come about: the event reads one memory, what is kept reads two, and neither reads a
+-- local of a program. Goals that don't speak of two programs give them no type.
+unfoldable pub until_of : Declarations → Sequent → Node → Node → Goal → Answer (Option Until)
+until_of ds s m r (equiv a b p q) = do
+  e ← elaborated m (unary ds s []) [] (Some bool_ty)
+  f ← elaborated r (relational ds s [] []) [] (Some bool_ty)
+  given (Some (record { event = e; kept = f }))
+until_of ds s m r G = given None
+
+-- the same of a step that acts on these programs: on one of two none is
+abbrev pub until_on : Declarations → Sequent → Acts → Node → Node → Answer (Option Until)
+until_on ds s on.All m r = until_of ds s m r (goal_of s.conclusion)
+until_on ds s a m r = given None
+
+abbrev pub calls_until : Option Until → Rule
+calls_until (Some u) = rule.Abstract (abstract_rule.CallUntil u)
+calls_until None = rule.OnBodies on_bodies.Unfit
+
 -- `proc`: into the procedures of a judgment, or, of abstract modules, by what their oracles keep
 abbrev pub entering_rule : Declarations → Sequent → Acts → List Node → Place → Answer Rule
 entering_rule ds s a [] p = given (rule.OnBodies (on_all a on_bodies.Proc))
 entering_rule ds s a (r ∷ []) p = kept_on ds s a r >>= λ f. given (procedures_by f)
 entering_rule ds s a rs p = not_built p
 
--- The rules on calls are built by what the procedures are said to do, by what the oracles of abstract ones keep, and by a judgment that is
--- known.
+-- The rules on calls are built by what the procedures are said to do, by what the oracles of abstract ones keep, also until an event has come
+-- about, and by a judgment that is known.
 abbrev pub call_rule : Declarations → Sequent → Acts → Kind → List Node → Place → Answer Rule
 call_rule ds s a text.CallContract (pre ∷ post ∷ []) p = contract_at ds s a pre post (goal_of s.conclusion)
 call_rule ds s a text.CallInvariant (r ∷ []) p = kept_on ds s a r >>= λ f. given (calls_by f)
+call_rule ds s a text.CallUpto (m ∷ r ∷ []) p = until_on ds s a m r >>= λ u. given (calls_until u)
 call_rule ds s a text.CallLemma (t ∷ []) p = do
   f ← used ds s t
   given (rule.CallKnown a f)

@@ -12,7 +12,7 @@ ghost use Rattle.gb_names.specs.Environment.{relational, unary};
 ghost use Rattle.gb_elab_mod.specs.OnPrograms.{call_rule, contract_at, contract_of, contract_of_both, contract_on, last_procedure, params_if, procedure_called, related, result_if, said_around};
 
 use crate::forms::{form_on_one, form_on_two};
-use crate::kept::calls_rule;
+use crate::kept::{calls_rule, calls_until};
 use crate::uses::used;
 use gb_core::place::Place;
 use gb_core::refusal::Refused;
@@ -264,6 +264,7 @@ pub fn call_rule(
             contract_at(alloc, scope, goal, acts, said, goal_of(&goal.conclusion))
         }
         (Head::CallInvariant, [kept]) => calls_rule(alloc, scope, goal, acts, kept),
+        (Head::CallUpto, [event, kept]) => calls_until(alloc, scope, goal, acts, event, kept),
         (Head::CallLemma, [known]) => Ok(Rule::CallKnown(acts, used(alloc, scope, goal, known)?)),
         _ => Err(not_built(place)),
     }

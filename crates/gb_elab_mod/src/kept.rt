@@ -4,7 +4,7 @@ ghost use Rattle.std.specs.Prelude.{◌≡◌};
 ghost use Rattle.gb_goal.specs.Answers.{Answers, ◌>>=◌ as ◌and_then◌};
 ghost use Rattle.gb_goal.specs.Answers.Answer.{given};
 ghost use Rattle.gb_goal.specs.Views.{goal_seen};
-ghost use Rattle.gb_elab_mod.specs.OnPrograms.{calls_by, kept_of, kept_on, procedures_by};
+ghost use Rattle.gb_elab_mod.specs.OnPrograms.{calls_by, calls_until, kept_of, kept_on, procedures_by, until_of, until_on};
 
 use crate::forms::{form_on_one, form_on_two};
 use gb_core::refusal::Refused;
@@ -12,7 +12,7 @@ use gb_goal::goal::{Goal, goal_of};
 use gb_goal::scope::Scope;
 use gb_goal::sequent::Sequent;
 use gb_script::tree::Node;
-use gb_steps::step::{AbstractRule, Acts, BodyRule, Rule};
+use gb_steps::step::{AbstractRule, Acts, BodyRule, Rule, Until};
 use gb_terms::term::Form;
 use std::alloc::Global;
 
@@ -92,6 +92,64 @@ pub fn procedures_rule(
 {
     match kept_on(alloc, scope, goal, acts, kept)? {
         Some(kept) => Ok(Rule::Abstract(AbstractRule::Proc(kept))),
+        None => Ok(Rule::OnBodies(BodyRule::Unfit)),
+    }
+}
+
+/// What oracles keep until an event has come about, and the event, at a judgment that is seen so. None at goals that give them no type.
+#[tactic(auto, unfolding(crate::specs::OnPrograms::until_of))]
+fn until_of(
+    alloc: Global,
+    scope: &Scope,
+    goal: &Sequent,
+    event: &Node,
+    kept: &Node,
+    seen: Goal<'_>,
+) -> Result<Option<Until>, Refused>
+    ensures { Answers (until_of scope.now goal.now event.now kept.now (goal_seen seen.entry)) result }
+{
+    let Goal::Equiv(..) = seen else {
+        return Ok(None);
+    };
+    let event = form_on_one(alloc, scope, goal, &[], event)?;
+    let kept = form_on_two(alloc, scope, goal, &[], &[], kept)?;
+    Ok(Some(Until { event, kept }))
+}
+
+/// The same of a step that acts on these programs.
+fn until_on(
+    alloc: Global,
+    scope: &Scope,
+    goal: &Sequent,
+    acts: Acts,
+    event: &Node,
+    kept: &Node,
+) -> Result<Option<Until>, Refused>
+    ensures { Answers (until_on scope.now goal.now acts event.now kept.now) result }
+{
+    match acts {
+        Acts::All => until_of(alloc, scope, goal, event, kept, goal_of(&goal.conclusion)),
+        _ => Ok(None),
+    }
+}
+
+/// The typed step of `call` by what oracles keep until an event has come about.
+///
+/// # Errors
+///
+/// Those of both forms, which read no locals of programs.
+pub fn calls_until(
+    alloc: Global,
+    scope: &Scope,
+    goal: &Sequent,
+    acts: Acts,
+    event: &Node,
+    kept: &Node,
+) -> Result<Rule, Refused>
+    ensures { Answers (until_on scope.now goal.now acts event.now kept.now and_then λ u. given (calls_until u)) result }
+{
+    match until_on(alloc, scope, goal, acts, event, kept)? {
+        Some(until) => Ok(Rule::Abstract(AbstractRule::CallUntil(until))),
         None => Ok(Rule::OnBodies(BodyRule::Unfit)),
     }
 }

@@ -1,9 +1,10 @@
 // What commands `op` declare.
 
-ghost use Rattle.std.specs.Prelude.{◌≡◌, map, IfOk, MatchResult};
+ghost use Rattle.std.specs.Prelude.{◌≡◌, map, reverse, IfOk, MatchResult};
 ghost use Rattle.std.specs.Option.{option_copied};
-ghost use Rattle.gb_goal.specs.Answers.{Answers, Fails};
+ghost use Rattle.gb_goal.specs.Answers.{Answers, Fails, ◌>>=◌ as ◌and_then◌};
 ghost use Rattle.gb_goal.specs.Answers.Answer.{given};
+ghost use Rattle.gb_names.specs.Bindings.{bound_value};
 ghost use Rattle.gb_names.specs.Types.{all_given, type_of};
 ghost use Rattle.gb_elab_prog.specs.Contexts.{nothing_bound};
 ghost use Rattle.gb_elab_prog.specs.Operators.{all_parameters, body, defined, of_one_type, operator_entry, parameters, undefined, written};
@@ -17,7 +18,7 @@ use gb_core::{Shared, SharedItems};
 use gb_elab::form::typed;
 use gb_goal::scope::{Entry, Operator, OperatorType, Scope};
 use gb_names::binders::of_type;
-use gb_names::bindings::{bound_values, within};
+use gb_names::bindings::{Bindings, bound_values, within};
 use gb_names::refusals::not_built;
 use gb_names::setting::Setting;
 use gb_names::types::{type_of, type_or_number};
@@ -83,8 +84,7 @@ fn defined(
 {
     let bound = all_parameters(alloc, scope, groups)?;
     let params = types_of(alloc, bound.values.as_slice())?;
-    let want = written(alloc, scope, to)?;
-    let body = body_of(alloc, scope, bound, want, form)?;
+    let body = written_body(alloc, scope, bound.values.as_slice(), to, form)?;
     Boxed::new(alloc, Entry::Operator(Operator { params, body })).map_err(Refused::from)
 }
 
@@ -161,22 +161,43 @@ fn written(alloc: Global, scope: &Scope, to: &[Node]) -> Result<Option<Shared<Ty
     }
 }
 
+/// The typed tree of a body under its parameters, of the type that is written for it, if one is.
+fn written_body(
+    alloc: Global,
+    scope: &Scope,
+    params: &[TypedName],
+    to: &[Node],
+    form: &Node,
+) -> Result<Term, Refused>
+    ensures { Answers (written scope.now to.now and_then λ w. body scope.now params.now w form.now) result }
+{
+    let want = written(alloc, scope, to)?;
+    body_of(alloc, scope, params, inside(&want), form)
+}
+
 /// The typed tree of a body under its parameters, the last one innermost.
 #[tactic(auto, unfolding(crate::specs::Operators::body))]
 fn body_of(
     alloc: Global,
     scope: &Scope,
-    bound: Bound,
-    want: Option<Shared<Ty>>,
+    params: &[TypedName],
+    want: Option<&Ty>,
     form: &Node,
 ) -> Result<Term, Refused>
-    ensures { Answers (body scope.now bound.values want form.now) result }
+    ensures { Answers (body scope.now params.now (option_copied want.entry) form.now) result }
 {
     let around = nothing_around(alloc)?;
-    let params = bound_values(alloc, bound.values.as_slice())?;
-    let params = within(alloc, params, &[])?;
+    let params = innermost_first(alloc, params)?;
     let at = Setting::operator(scope, &around);
-    small(typed(alloc, &at, params.as_slice(), form, inside(&want))?)
+    small(typed(alloc, &at, params.as_slice(), form, want)?)
+}
+
+/// Parameters as what is bound, the last one innermost.
+fn innermost_first(alloc: Global, params: &[TypedName]) -> Result<Bindings, AllocError>
+    ensures { IfOk result (λ made. made ≡ reverse (map bound_value params.now)) }
+{
+    let params = bound_values(alloc, params)?;
+    within(alloc, params, &[])
 }
 
 /// What a shared type holds, where there is one.

@@ -1,7 +1,8 @@
 // Calls of procedures.
 
 ghost use Rattle.std.specs.Prelude.{◌≡◌};
-ghost use Rattle.gb_goal.specs.Answers.{Answers};
+ghost use Rattle.gb_goal.specs.Answers.{Answers, ◌>>=◌ as ◌and_then◌};
+ghost use Rattle.gb_goal.specs.Seen.{typed};
 ghost use Rattle.gb_names.specs.Environment.{environment};
 ghost use Rattle.gb_names.specs.Judgments.{named_seen};
 ghost use Rattle.gb_elab_stmt.specs.Calls.{arguments, call, call_of, enough, in_last, takes};
@@ -14,6 +15,7 @@ use gb_core::refusal::Refused;
 use gb_core::same::same_types;
 use gb_core::ty::Ty;
 use gb_elab::form::typed;
+use gb_goal::interface::ProcedureType;
 use gb_names::globals::Target;
 use gb_names::judgment::{Named, procedure_called};
 use gb_names::refusals::mismatch;
@@ -24,17 +26,6 @@ use gb_terms::decl::TypedName;
 use gb_terms::term::{Instr, Terms};
 use sqlite_items::Items;
 use std::alloc::Global;
-
-/// Refuses a call with too few arguments.
-fn enough(params: &[TypedName], args: &[Node], place: Place) -> Result<(), Refused>
-    ensures { Answers (enough params.now args.now place) result }
-{
-    if args.len() < params.len() {
-        Err(mismatch(place))
-    } else {
-        Ok(())
-    }
-}
 
 /// Refuses a result of another type than that of what is written, if anything is.
 fn takes(alloc: Global, targets: &[Target], ty: &Ty, place: Place) -> Result<(), Refused>
@@ -75,6 +66,24 @@ fn arguments(
     Ok(made)
 }
 
+/// The arguments of a call of a procedure of this type: as many as it has parameters at least. What takes its result is of its type.
+fn fitting(
+    alloc: Global,
+    at: &Setting<'_>,
+    targets: &[Target],
+    ty: ProcedureType<'_>,
+    args: &[Node],
+    place: Place,
+) -> Result<Terms, Refused>
+    ensures { Answers (enough (typed ty.entry).params args.now place and_then λ _. takes (pairs targets.now) (typed ty.entry).result place and_then λ _. arguments (environment at.now) (typed ty.entry).params args.now) result }
+{
+    if args.len() < ty.params.len() {
+        return Err(mismatch(place));
+    }
+    takes(alloc, targets, ty.result.get(), place)?;
+    arguments(alloc, at, ty.params, args)
+}
+
 /// A call of a procedure, whose result these variables take.
 #[tactic(auto, unfolding(crate::specs::Calls::call_of))]
 fn call_of(
@@ -88,9 +97,7 @@ fn call_of(
     ensures { Answers (call_of (environment at.now) (pairs targets.now) (named_seen named.entry) args.now place) result }
 {
     let Named { reference, ty } = named;
-    enough(ty.params, args, place)?;
-    takes(alloc, targets, ty.result.get(), place)?;
-    let args = arguments(alloc, at, ty.params, args)?;
+    let args = fitting(alloc, at, targets, ty, args, place)?;
     let args = SharedItems::new(alloc, args)?;
     let vars = variables_of(alloc, targets)?;
     Ok(Instr::Call(vars, reference, args))

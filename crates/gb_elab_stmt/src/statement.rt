@@ -2,14 +2,17 @@
 
 ghost use Rattle.std.specs.Prelude.{◌≡◌, [], ◌∷◌, ◌++◌, Some, IfOk};
 ghost use Rattle.gb_core.specs.declared.ty.Ty.TheVariants.{Distr};
-ghost use Rattle.gb_names.specs.Names.{dotted};
-ghost use Rattle.gb_script.specs.Tree.{head_of, parts_of, place_of, text_of};
-ghost use Rattle.gb_terms.specs.declared.term.Head.TheVariants.{If, While};
-ghost use Rattle.gb_goal.specs.Answers.{Answers, Gives};
+ghost use Rattle.gb_script.specs.Tree.{head_of, parts_of, place_of};
+ghost use Rattle.gb_terms.specs.declared.op.Read.TheVariants.{Program};
+ghost use Rattle.gb_terms.specs.declared.op.Side.TheVariants.{Own};
+ghost use Rattle.gb_terms.specs.declared.term.Head.TheVariants.{Assign, Read};
+ghost use Rattle.gb_terms.specs.Make.{node};
+ghost use Rattle.gb_goal.specs.Answers.{Answers, Gives, ◌>>=◌ as ◌and_then◌};
+ghost use Rattle.gb_goal.specs.Answers.Answer.{given};
 ghost use Rattle.gb_names.specs.Environment.{environment, sampled};
 ghost use Rattle.gb_elab.specs.Forms.{elaborated};
-ghost use Rattle.gb_elab_stmt.specs.Targets.{pairs};
-ghost use Rattle.gb_elab_stmt.specs.Statements.{all_stated, alone, assignment, branching, called_to, counts_down, entry_stored, instruction, result_in, result_to, results_in, sampling, single, stated, stating, stored, stored_term, tuple_assignment, turning, variant, with_statings, written_to};
+ghost use Rattle.gb_elab_stmt.specs.Targets.{pairs, type_of_all, variables_of};
+ghost use Rattle.gb_elab_stmt.specs.Statements.{all_stated, alone, assignment, branching, called_to, counts_down, entry_stored, instruction, result_in, results_in, sampling, single, stated, stating, stored, stored_term, tuple_assignment, turning, variant, with_statings, written_to};
 
 use crate::calls::call;
 use crate::targets::{targets, type_of_all, variables_of};
@@ -18,11 +21,10 @@ use gb_core::name::Name;
 use gb_core::place::Place;
 use gb_core::refusal::Refused;
 use gb_core::ty::Ty;
-use gb_core::var::Var;
 use gb_core::{Shared, SharedItems};
 use gb_elab::form::typed;
 use gb_names::globals::Target;
-use gb_names::names::{append, path, target};
+use gb_names::names::{dotted, target};
 use gb_names::refusals::{mismatch, not_built};
 use gb_names::setting::Setting;
 use gb_operators::kinds::entries;
@@ -34,6 +36,7 @@ use gb_terms::op::{Op, Side};
 use gb_terms::term::{Cmd, Head as TermHead, Instr, Instrs, Term};
 use sqlite_items::Items;
 use std::alloc::{AllocError, Global};
+use std::slice::from_ref;
 
 /// A sampling: the target is a variable of the procedure or a global, the source a distribution on its type.
 #[tactic(auto, unfolding(crate::specs::Statements::sampling))]
@@ -69,13 +72,19 @@ fn source(
     typed(alloc, &at.sampled(), &[], from, Some(&Ty::Distr(outcomes)))
 }
 
-/// One variable, as what is assigned to.
-fn alone_target(alloc: Global, var: Var) -> Result<SharedItems<Var>, AllocError>
-    ensures { IfOk result (λ made. made ≡ var ∷ []) }
+/// An assignment to variables: the value is of the type of what they take together.
+fn assigned(
+    alloc: Global,
+    at: &Setting<'_>,
+    targets: &[Target],
+    value: &Node,
+) -> Result<Instr, Refused>
+    ensures { Answers (elaborated value.now (environment at.now) [] (Some (type_of_all (pairs targets.now))) and_then λ e. given (Assign (variables_of (pairs targets.now)) e)) result }
 {
-    let mut targets = Items::new(alloc);
-    targets.push(var)?;
-    SharedItems::new(alloc, targets)
+    let ty = type_of_all(alloc, targets)?;
+    let value = typed(alloc, at, &[], value, Some(ty.get()))?;
+    let vars = variables_of(alloc, targets)?;
+    Ok(Instr::Assign(vars, value))
 }
 
 /// An assignment: the target is a variable of the procedure or a global, the value of its type.
@@ -91,10 +100,8 @@ fn assignment(
 {
     match value {
         [value] => {
-            let Target { var, ty } = target(alloc, at, name, place)?;
-            let targets = alone_target(alloc, var)?;
-            let value = typed(alloc, at, &[], value, Some(ty.get()))?;
-            Ok(Instr::Assign(targets, value))
+            let target = target(alloc, at, name, place)?;
+            assigned(alloc, at, from_ref(&target), value)
         }
         _ => Err(not_built(place)),
     }
@@ -114,33 +121,13 @@ fn tuple_assignment(
     match value {
         [value] => {
             let targets = targets(alloc, at, paths)?;
-            let ty = type_of_all(alloc, targets.as_slice())?;
-            let value = typed(alloc, at, &[], value, Some(ty.get()))?;
-            let vars = variables_of(alloc, targets.as_slice())?;
-            Ok(Instr::Assign(vars, value))
+            assigned(alloc, at, targets.as_slice(), value)
         }
         _ => Err(not_built(place)),
     }
 }
 
 /// A call whose result these variables take.
-fn result_to(
-    alloc: Global,
-    at: &Setting<'_>,
-    targets: &[Target],
-    head: Head,
-    parts: &[Node],
-    place: Place,
-) -> Result<Instr, Refused>
-    ensures { Answers (result_to (environment at.now) (pairs targets.now) head parts.now place) result }
-{
-    match parts {
-        [first, rest @ ..] => call(alloc, at, targets, head, first, rest, place),
-        [] => Err(not_built(place)),
-    }
-}
-
-/// .. of which the call is the last part.
 fn called_to(
     alloc: Global,
     at: &Setting<'_>,
@@ -151,7 +138,10 @@ fn called_to(
     ensures { Answers (called_to (environment at.now) (pairs targets.now) calls.now place) result }
 {
     match calls {
-        [c] => result_to(alloc, at, targets, c.head, c.parts.as_slice(), c.place),
+        [c] => match c.parts.as_slice() {
+            [first, rest @ ..] => call(alloc, at, targets, c.head, first, rest, c.place),
+            [] => Err(not_built(c.place)),
+        },
         _ => Err(not_built(place)),
     }
 }
@@ -167,9 +157,8 @@ fn result_in(
 ) -> Result<Instr, Refused>
     ensures { Answers (result_in (environment at.now) name.now calls.now place) result }
 {
-    let mut targets = Items::new(alloc);
-    targets.push(target(alloc, at, name, place)?)?;
-    called_to(alloc, at, targets.as_slice(), calls, place)
+    let target = target(alloc, at, name, place)?;
+    called_to(alloc, at, from_ref(&target), calls, place)
 }
 
 /// .. to several variables at once.
@@ -205,17 +194,23 @@ fn written_to(
     }
 }
 
+/// What a variable holds.
+fn read(alloc: Global, target: &Target) -> Result<Term, AllocError>
+    ensures { IfOk result (λ made. made ≡ node (Read (Program target.now.var Own)) [] target.now.ty) }
+{
+    let ty = target.ty.share()?;
+    let var = copy_var(alloc, &target.var)?;
+    make::variable(alloc, var, Side::Own, ty)
+}
+
 /// A map as a variable has it, with another value at a key.
 fn stored_term(alloc: Global, target: &Target, key: Term, value: Term) -> Result<Term, AllocError>
     ensures { IfOk result (λ made. made ≡ stored_term (target.now.var, target.now.ty) key value) }
 {
-    let var = copy_var(alloc, &target.var)?;
-    let map = make::variable(alloc, var, Side::Own, target.ty.share()?)?;
-    let mut args = Items::new(alloc);
-    args.push(map)?;
-    args.push(key)?;
-    args.push(value)?;
-    make::term(alloc, TermHead::Builtin(Op::Set), args, target.ty.share()?)
+    let map = read(alloc, target)?;
+    let args = Items::from_vec(vec![in alloc; map, key, value]?);
+    let ty = target.ty.share()?;
+    make::term(alloc, TermHead::Builtin(Op::Set), args, ty)
 }
 
 /// The entry at a key is written, of a map with these types of keys and values.
@@ -234,8 +229,8 @@ fn entry_stored(
     let key = typed(alloc, at, &[], key, Some(of_key))?;
     let value = typed(alloc, at, &[], value, Some(of_value))?;
     let made = stored_term(alloc, target, key, value)?;
-    let var = copy_var(alloc, &target.var)?;
-    Ok(Instr::Assign(alone_target(alloc, var)?, made))
+    let vars = variables_of(alloc, from_ref(target))?;
+    Ok(Instr::Assign(vars, made))
 }
 
 /// An entry of a map is written: the map becomes the one with this value at this key.
@@ -262,21 +257,6 @@ fn stored(
     }
 }
 
-/// The name that a first word and others are, joined by dots.
-#[tactic(auto, using(crate::proofs::Stated::dotted_path))]
-fn path_from(alloc: Global, first: &Node, more: &[Node]) -> Result<Name, AllocError>
-    ensures { IfOk result (λ made. made ≡ dotted (text_of first.now) more.now) }
-{
-    let mut text = String::from_str(alloc, first.text.as_str())?;
-    match more {
-        [] => Ok(Name::new(text)),
-        [_, ..] => {
-            append(&mut text, &path(alloc, more)?)?;
-            Ok(Name::new(text))
-        }
-    }
-}
-
 /// A statement without others in it, from its first part, which is the first word of its target or of the procedure that it calls, and the
 /// others.
 fn instruction(
@@ -292,14 +272,32 @@ fn instruction(
     let last = rest.len().saturating_sub(1);
     let (words, written) = (&rest[..last], &rest[last..]);
     match head {
-        Head::Sample => sampling(alloc, at, &path_from(alloc, first, words)?, written, place),
-        Head::Assign => assignment(alloc, at, &path_from(alloc, first, words)?, written, place),
+        Head::Sample => sampling(
+            alloc,
+            at,
+            &dotted(alloc, &first.text, words)?,
+            written,
+            place,
+        ),
+        Head::Assign => assignment(
+            alloc,
+            at,
+            &dotted(alloc, &first.text, words)?,
+            written,
+            place,
+        ),
         Head::Store => {
             let second = last.saturating_sub(1);
-            let map = path_from(alloc, first, &rest[..second])?;
+            let map = dotted(alloc, &first.text, &rest[..second])?;
             stored(alloc, at, &map, &rest[second..], place)
         }
-        Head::AssignCall => result_in(alloc, at, &path_from(alloc, first, words)?, written, place),
+        Head::AssignCall => result_in(
+            alloc,
+            at,
+            &dotted(alloc, &first.text, words)?,
+            written,
+            place,
+        ),
         Head::Call | Head::FunctorCall => call(alloc, at, &[], head, first, rest, place),
         Head::TupleStatement => match rest {
             [what] => {
@@ -310,6 +308,15 @@ fn instruction(
         },
         _ => Err(not_built(place)),
     }
+}
+
+/// The list of one statement.
+fn one(alloc: Global, i: Instr) -> Result<Instrs, Refused>
+    ensures { Answers (given (i ∷ [])) result }
+{
+    let mut list = Items::new(alloc);
+    list.push(i)?;
+    Ok(list)
 }
 
 /// One statement alone.
@@ -324,9 +331,7 @@ fn alone(
     ensures { Answers (alone (instruction (environment at.now) head first.now rest.now place)) result }
 {
     let i = instruction(alloc, at, head, first, rest, place)?;
-    let mut list = Items::new(alloc);
-    list.push(i)?;
-    Ok(list)
+    one(alloc, i)
 }
 
 /// .. from its head and its parts.
@@ -373,16 +378,6 @@ fn variant(alloc: Global, at: &Setting<'_>, parts: &[Node], place: Place) -> Res
     }
 }
 
-/// A loop alone.
-fn looped(alloc: Global, guard: Term, variant: Term, list: Instrs) -> Result<Instrs, AllocError>
-    ensures { IfOk result (λ made. made ≡ While guard variant (record { list = list }) ∷ []) }
-{
-    let list = SharedItems::new(alloc, list)?;
-    let mut made = Items::new(alloc);
-    made.push(Instr::While(guard, variant, Cmd { list }))?;
-    Ok(made)
-}
-
 /// A statement alone of which the first word stands apart from what is behind it.
 fn named(alloc: Global, at: &Setting<'_>, word: &Node, tail: &Node) -> Result<Instrs, Refused>
     ensures { Answers (alone (instruction (environment at.now) (head_of tail.now) word.now (parts_of tail.now) (place_of word.now))) result }
@@ -404,17 +399,6 @@ fn joined(first: Instrs, more: Instrs) -> Result<Instrs, AllocError>
     let mut all = first;
     all.append(more)?;
     Ok(all)
-}
-
-/// The branch on a test, with both of its sides.
-fn branched(alloc: Global, test: Term, yes: Instrs, no: Instrs) -> Result<Instrs, AllocError>
-    ensures { IfOk result (λ made. made ≡ If test (record { list = yes }) (record { list = no }) ∷ []) }
-{
-    let yes = SharedItems::new(alloc, yes)?;
-    let no = SharedItems::new(alloc, no)?;
-    let mut list = Items::new(alloc);
-    list.push(Instr::If(test, Cmd { list: yes }, Cmd { list: no }))?;
-    Ok(list)
 }
 
 /// The typed trees of a statement, or of those of a block.
@@ -464,6 +448,16 @@ fn stating(
     }
 }
 
+/// The statements of a side of a branch, or of a loop.
+#[cycle(statements)]
+fn block(alloc: Global, at: &Setting<'_>, tree: &Node) -> Result<Cmd, Refused>
+    ensures { Gives (λ c. c.list) (stated tree.now (environment at.now)) result }
+{
+    let list = stated(alloc, at, tree)?;
+    let list = SharedItems::new(alloc, list)?;
+    Ok(Cmd { list })
+}
+
 /// A branch, by the trees of its sides, and its test.
 #[cycle(statements)]
 fn branch(
@@ -478,9 +472,9 @@ fn branch(
     match sides {
         [yes, no] => {
             let test = typed(alloc, at, &[], test, Some(&Ty::Bool))?;
-            let yes = stated(alloc, at, yes)?;
-            let no = stated(alloc, at, no)?;
-            Ok(branched(alloc, test, yes, no)?)
+            let yes = block(alloc, at, yes)?;
+            let no = block(alloc, at, no)?;
+            one(alloc, Instr::If(test, yes, no))
         }
         _ => Err(not_built(place)),
     }
@@ -493,8 +487,8 @@ fn turning(alloc: Global, at: &Setting<'_>, rest: &Node, guard: &Node) -> Result
 {
     let guard = typed(alloc, at, &[], guard, Some(&Ty::Bool))?;
     let variant = variant(alloc, at, rest.parts.as_slice(), rest.place)?;
-    let list = stated(alloc, at, rest)?;
-    Ok(looped(alloc, guard, variant, list)?)
+    let turn = block(alloc, at, rest)?;
+    one(alloc, Instr::While(guard, variant, turn))
 }
 
 /// The typed trees of statements one after another.

@@ -68,8 +68,8 @@ pub fn first_unproved(
 ) -> Result<Option<ProcName>, AllocError>
     ensures { IfOk result (λ found. found ≡ first_unproved scope.now name.now) }
 {
-    let mut first = Items::new(alloc);
-    first.push(name.copy(alloc)?)?;
+    let name = name.copy(alloc)?;
+    let first = Items::from_vec(vec![in alloc; name]?);
     let names = all_named(alloc, scope, first)?;
     first_of(alloc, scope, names.as_slice())
 }

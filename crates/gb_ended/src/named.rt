@@ -1,6 +1,6 @@
 //! Which modules a module names, through all modules that it names.
 
-ghost use Rattle.std.specs.Prelude.{◌≡◌, ◌++◌, IfOk};
+ghost use Rattle.std.specs.Prelude.{◌≡◌, [], ◌∷◌, ◌++◌, IfOk};
 ghost use Rattle.std.specs.Option.{option_copied};
 ghost use Rattle.gb_ended.specs.Named.{all_named, all_names_in, free_of, is_one, modules_of, named_by, named_from, named_in, names_in, other, others, owner, owners, with_named};
 
@@ -16,20 +16,26 @@ use gb_terms::module::{Mexp, ProcRef};
 use sqlite_items::Items;
 use std::alloc::{AllocError, Global};
 
+/// A name behind others.
+fn with_name(alloc: Global, found: Names, name: &Name) -> Result<Names, AllocError>
+    ensures { IfOk result (λ made. made ≡ found ++ name.now ∷ []) }
+{
+    let name = name.copy(alloc)?;
+    let mut all = found;
+    all.push(name)?;
+    Ok(all)
+}
+
 /// Names behind others: those of the modules in a module expression.
 #[cycle(names_in)]
 fn names_in(alloc: Global, found: Names, module: &Mexp) -> Result<Names, AllocError>
     ensures { IfOk result (λ made. made ≡ found ++ names_in «module».now) }
 {
-    let mut all = found;
     match module {
-        Mexp::Name(name) => {
-            all.push(name.copy(alloc)?)?;
-            Ok(all)
-        }
+        Mexp::Name(name) => with_name(alloc, found, name),
         Mexp::Apply(name, args) => {
-            all.push(name.copy(alloc)?)?;
-            all_names_in(alloc, all, args.as_slice())
+            let found = with_name(alloc, found, name)?;
+            all_names_in(alloc, found, args.as_slice())
         }
     }
 }
@@ -61,13 +67,10 @@ fn modules_of(alloc: Global, found: Names, list: &[Shared<ProcRef>]) -> Result<N
 fn with_owner(alloc: Global, found: Names, variable: &Var) -> Result<Names, AllocError>
     ensures { IfOk result (λ made. made ≡ found ++ owner variable.now) }
 {
-    let mut all = found;
     match variable {
-        Var::Global { module, .. } => all.push(module.copy(alloc)?)?,
-        Var::Glob { module } => all.push(module.copy(alloc)?)?,
-        Var::Local { .. } => {}
+        Var::Global { module, .. } | Var::Glob { module } => with_name(alloc, found, module),
+        Var::Local { .. } => Ok(found),
     }
-    Ok(all)
 }
 
 /// Names behind others: those of the owners of globals.
@@ -109,9 +112,7 @@ fn other(alloc: Global, found: Names, own: &Name, name: &Name) -> Result<Names, 
     if same_name(own, name) {
         return Ok(found);
     }
-    let mut all = found;
-    all.push(name.copy(alloc)?)?;
-    Ok(all)
+    with_name(alloc, found, name)
 }
 
 /// The names other than one.

@@ -1,13 +1,13 @@
 //! The rule `transitivity`.
 
-ghost use Rattle.std.specs.Prelude.{◌≡◌, IfOk, map};
+ghost use Rattle.std.specs.Prelude.{◌≡◌, ◌∷◌, [], IfOk, map};
 ghost use Rattle.gb_goal.specs.Answers.{Answers};
 ghost use Rattle.gb_goal.specs.Goal.{code_of, form_of};
 ghost use Rattle.gb_goal.specs.Goal.Code.{procedure};
 ghost use Rattle.gb_goal.specs.Goal.Goal.{equiv};
 ghost use Rattle.gb_goal.specs.Rows.{answered, concluding, stepped};
 ghost use Rattle.gb_typing.specs.Forms.{every_pair, implies_form};
-ghost use Rattle.gb_forms.specs.Between.{some_between};
+ghost use Rattle.gb_forms.specs.Between.{from_left, some_between, to_right};
 ghost use Rattle.gb_equiv.specs.Transitivity.{every_between, through, transitivity_row};
 
 use gb_core::place::Place;
@@ -22,6 +22,16 @@ use gb_terms::make::{implication, over, truth_ty};
 use gb_terms::term::{Form, Head, Subject};
 use std::alloc::{AllocError, Global};
 
+/// If both relations hold of a memory between, the form holds.
+fn by_memory(alloc: Global, left: &Form, right: &Form, form: &Form) -> Result<Form, AllocError>
+    ensures { IfOk result (λ made. made ≡ implies_form (from_left left.now) (implies_form (to_right right.now) form.now)) }
+{
+    let second = to_right(alloc, right)?;
+    let rest = implication(alloc, second, form.share()?)?;
+    let first = from_left(alloc, left)?;
+    implication(alloc, first, rest)
+}
+
 /// Whatever the memory between is for which both relations hold, the form holds.
 fn every_between(alloc: Global, left: &Form, right: &Form, form: &Form) -> Result<Form, AllocError>
     ensures { IfOk result (λ made. made ≡ every_between left.now right.now form.now) }
@@ -30,9 +40,7 @@ fn every_between(alloc: Global, left: &Form, right: &Form, form: &Form) -> Resul
         let rest = implied(alloc, right, form)?;
         return implication(alloc, left.share()?, rest);
     }
-    let second = to_right(alloc, right)?;
-    let rest = implication(alloc, second, form.share()?)?;
-    let body = implication(alloc, from_left(alloc, left)?, rest)?;
+    let body = by_memory(alloc, left, right, form)?;
     let ty = truth_ty(alloc)?;
     over(alloc, Head::AllMemory, body, ty)
 }
@@ -68,6 +76,29 @@ fn half(
     equiv_of(alloc, left, right, pre, post)
 }
 
+/// The goals that two programs are equivalent to a procedure between.
+fn halves(
+    alloc: Global,
+    goal: &Sequent,
+    between: &Between,
+    left: &Subject,
+    right: &Subject,
+) -> Result<Sequents, AllocError>
+    ensures { IfOk result (λ made. made ≡ map (concluding goal.now) (equiv (code_of left.now) (procedure between.now.procedure) between.now.left_pre between.now.left_post
+        ∷ equiv (procedure between.now.procedure) (code_of right.now) between.now.right_pre between.now.right_post ∷ [])) }
+{
+    let there = Subject::Proc(between.procedure.share()?);
+    let first = half(alloc, left, &there, &between.left_pre, &between.left_post)?;
+    let second = half(
+        alloc,
+        &there,
+        right,
+        &between.right_pre,
+        &between.right_post,
+    )?;
+    two_goals(alloc, goal, first, second)
+}
+
 /// The goals of two programs by way of a procedure between.
 fn through(
     alloc: Global,
@@ -83,16 +114,8 @@ fn through(
     let first = leads_through(alloc, pre, between)?;
     let second = leads_back(alloc, between, post)?;
     let mut goals = two_goals(alloc, goal, first, second)?;
-    let there = Subject::Proc(between.procedure.share()?);
-    let first = half(alloc, left, &there, &between.left_pre, &between.left_post)?;
-    let second = half(
-        alloc,
-        &there,
-        right,
-        &between.right_pre,
-        &between.right_post,
-    )?;
-    goals.append(two_goals(alloc, goal, first, second)?)?;
+    let more = halves(alloc, goal, between, left, right)?;
+    goals.append(more)?;
     Ok(goals)
 }
 

@@ -15,3 +15,4 @@ pub mod Tables
 pub mod Truths
 pub mod Updates
 pub mod Weights
+pub mod Collected

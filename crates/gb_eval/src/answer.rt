@@ -11,12 +11,42 @@ use gb_num::{Frac, Overflow};
 use std::alloc::{AllocError, AllocFailed};
 
 /// A value of a finite type, a whole number, a fraction in lowest terms, or a distribution.
-#[derive(Drop)]
 pub enum Answer {
     Value(Value),
     Whole(i128),
     Fraction(Frac),
     Table(Table),
+}
+
+impl Drop for Answer {
+    fn drop(self) {
+        match self {
+            Answer::Value(a) => drop(a),
+            Answer::Whole(_) => {}
+            Answer::Fraction(_) => {}
+            Answer::Table(a) => drop(a),
+        }
+    }
+}
+
+impl Answer {
+    fn into_value(self) -> Result<Value, Stop>
+        ensures { Finds (value_in (shown self)) result }
+    {
+        match self {
+            Answer::Value(v) => Ok(v),
+            _ => Err(Stop::Unknown),
+        }
+    }
+
+    fn into_table(self) -> Result<Table, Stop>
+        ensures { Gives shown_table (table_in (shown self)) result }
+    {
+        match self {
+            Answer::Table(table) => Ok(table),
+            _ => Err(Stop::Unknown),
+        }
+    }
 }
 
 /// Why evaluation stops: for want of memory, at a part that is opaque to it, or at an operation on whole numbers whose result
@@ -110,10 +140,7 @@ pub fn truth_in(a: &Answer) -> Result<bool, Stop>
 pub fn value_in(a: Answer) -> Result<Value, Stop>
     ensures { Finds (value_in (shown a)) result }
 {
-    match a {
-        Answer::Value(v) => Ok(v),
-        _ => Err(Stop::Unknown),
-    }
+    a.into_value()
 }
 
 /// The fraction that an answer is.
@@ -130,8 +157,5 @@ pub fn fraction_in(a: &Answer) -> Result<Frac, Stop>
 pub fn table_in(a: Answer) -> Result<Table, Stop>
     ensures { Gives shown_table (table_in (shown a)) result }
 {
-    match a {
-        Answer::Table(table) => Ok(table),
-        _ => Err(Stop::Unknown),
-    }
+    a.into_table()
 }

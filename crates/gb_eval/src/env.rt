@@ -20,10 +20,17 @@ use gb_walk::clash::Excluded;
 use sqlite_items::Items;
 
 /// A read, and its value.
-#[derive(Drop)]
 pub struct ReadValue {
     pub read: Shared<Read>,
     pub value: Value,
+}
+
+impl Drop for ReadValue {
+    fn drop(self) {
+        let ReadValue { read, value } = self;
+        drop(read);
+        drop(value);
+    }
 }
 
 pub type ReadValues = Items<ReadValue>;
@@ -39,12 +46,22 @@ pub struct Env<'a> {
 }
 
 /// What a bound variable stands for; a memory by the values of what is read of it.
-#[derive(Drop)]
 pub enum Bound {
     Value(Value),
     Whole(i128),
     Fraction(Frac),
     Memory(HeldValues),
+}
+
+impl Drop for Bound {
+    fn drop(self) {
+        match self {
+            Bound::Value(a) => drop(a),
+            Bound::Whole(_) => {}
+            Bound::Fraction(_) => {}
+            Bound::Memory(a) => drop(a),
+        }
+    }
 }
 
 /// What stands for the variables that are bound around a term, the innermost last.
@@ -118,10 +135,13 @@ fn answer_of(bound: &Bound) -> Result<Answer, Stop>
 pub fn argument_of(answer: Answer) -> Result<Bound, Stop>
     ensures { Finds (argument_of (shown answer)) result }
 {
-    match answer {
-        Answer::Value(v) => Ok(Bound::Value(v)),
-        Answer::Whole(n) => Ok(Bound::Whole(n)),
-        Answer::Fraction(a) => Ok(Bound::Fraction(a)),
+    match &answer {
+        Answer::Value(v) => {
+            let value = v.share()?;
+            Ok(Bound::Value(value))
+        }
+        Answer::Whole(n) => Ok(Bound::Whole(*n)),
+        Answer::Fraction(a) => Ok(Bound::Fraction(*a)),
         Answer::Table(_) => Err(Stop::Unknown),
     }
 }

@@ -372,12 +372,13 @@ fn total_in(t: &Term, env: &Env<'_>) -> Result<u128, Stop>
 fn scaled(alloc: Global, side: Answer, other: &Term, env: &Env<'_>) -> Result<Answer, Stop>
     ensures { Gives shown (scaled (total_of (environment env.now).operators other.now) (shown side)) result }
 {
-    match side {
+    match &side {
         Answer::Table(table) => {
             let total = total_in(other, env)?;
-            Ok(Answer::Table(choose(alloc, &table, total)?))
+            let chosen = choose(alloc, table, total)?;
+            Ok(Answer::Table(chosen))
         }
-        answer => Ok(answer),
+        _ => Ok(side),
     }
 }
 

@@ -20,10 +20,17 @@ pub fn is_among(list: &[Var], variable: &Var) -> bool
 }
 
 /// What is read of a memory after a call: by what is said of the outcome, and by what is to hold then.
-#[derive(Drop)]
 pub struct Reads {
     pub said: Items<Var>,
     pub after: Items<Var>,
+}
+
+impl Drop for Reads {
+    fn drop(self) {
+        let Reads { said, after } = self;
+        drop(said);
+        drop(after);
+    }
 }
 
 /// Whether a global is read of the memory after the call: by what is said of the outcome, or elsewhere than in the left side.

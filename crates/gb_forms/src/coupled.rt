@@ -13,26 +13,48 @@ use gb_walk::walk::changed;
 use std::alloc::{AllocError, Global};
 
 /// A distribution that is sampled on one side, read there, and the type of its values.
-#[derive(Drop)]
 pub struct Sampled {
     pub from: Term,
     pub ty: Shared<Ty>,
 }
 
+impl Drop for Sampled {
+    fn drop(self) {
+        let Sampled { from, ty } = self;
+        drop(from);
+        drop(ty);
+    }
+}
+
 /// Functions between the values of two samplings, from left to right and from right to left. The argument of a function
 /// is its innermost bound variable.
-#[derive(Drop)]
 pub struct Maps {
     pub forth: Term,
     pub back: Term,
 }
 
+impl Drop for Maps {
+    fn drop(self) {
+        let Maps { forth, back } = self;
+        drop(forth);
+        drop(back);
+    }
+}
+
 /// Two samplings and functions between their values.
-#[derive(Drop)]
 pub struct Coupled {
     pub left: Sampled,
     pub right: Sampled,
     pub maps: Maps,
+}
+
+impl Drop for Coupled {
+    fn drop(self) {
+        let Coupled { left, right, maps } = self;
+        drop(left);
+        drop(right);
+        drop(maps);
+    }
 }
 
 /// The function `outer` after `inner`.

@@ -17,10 +17,17 @@ use sqlite_items::Items;
 use std::alloc::{AllocError, Global};
 
 /// What statements write, and what they read or write.
-#[derive(Drop)]
 pub struct Effects {
     pub written: Vars,
     pub touched: Vars,
+}
+
+impl Drop for Effects {
+    fn drop(self) {
+        let Effects { written, touched } = self;
+        drop(written);
+        drop(touched);
+    }
 }
 
 /// What statements read or write that call these procedures, through all of them.

@@ -223,3 +223,8 @@ module _ (ds : Declarations) (scoped : IsTypedScope (declared ds)) (q : Sequent)
   procedure_whole p e =
       let x = procedure_full ds goal g fits operators typed_body (means_there ds scoped g over) p e in
       record { found = x.found; there = x.there; total = λ vs m. routine_total g x.found x.full vs m }
+
+  -- What a reference means loses no weight where the procedure may lose none.
+  pub routine_full : (p : ProcRef) → code_loss ds (procedure p) ≡ nowhere → (r : Routine) → g.procedure p ≡ Some r → FullRoutine g r
+  routine_full p e r f =
+      stands_full ds goal g fits operators typed_body (means_there ds scoped g over) p (procedure_full ds goal g fits operators typed_body (means_there ds scoped g over) p e) r f

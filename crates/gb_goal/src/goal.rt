@@ -1,7 +1,6 @@
 // Goals as rules see them.
 
 ghost use Rattle.std.specs.Prelude.{◌≡◌, [], ◌∷◌, IfOk};
-ghost use Rattle.gb_terms.specs.Make.{node};
 ghost use Rattle.gb_terms.specs.declared.term.Term.{out-Term};
 ghost use Rattle.gb_goal.specs.Goal.{code_of, goal_of, form_of, judges_bodies};
 ghost use Rattle.gb_goal.specs.Goal.Code.{body};
@@ -13,7 +12,7 @@ use gb_core::ty::Ty;
 use gb_terms::make::{term, truth_ty};
 use gb_terms::module::ProcRef;
 use gb_terms::op::Rel;
-use gb_terms::term::{Cmd, Form, Head, Instr, Subject, Term};
+use gb_terms::term::{Cmd, Form, Head, Instr, Subject, Term, Terms};
 use sqlite_items::Items;
 use std::alloc::{AllocError, Global};
 
@@ -71,15 +70,11 @@ pub fn judges_bodies(form: &Form) -> bool
     }
 }
 
-/// A precondition and a postcondition under a judgment.
-fn judgment(alloc: Global, head: Head, pre: Form, post: Form) -> Result<Form, AllocError>
-    ensures { IfOk result (λ made. made ≡ node head (pre ∷ post ∷ []) Ty.Bool) }
+/// A precondition and a postcondition, as arguments of a judgment.
+fn conditions(alloc: Global, pre: Form, post: Form) -> Result<Terms, AllocError>
+    ensures { IfOk result (λ made. made ≡ pre ∷ post ∷ []) }
 {
-    let mut args = Items::new(alloc);
-    args.push(pre)?;
-    args.push(post)?;
-    let ty = truth_ty(alloc)?;
-    term(alloc, head, args, ty)
+    Ok(Items::from_vec(vec![in alloc; pre, post]?))
 }
 
 /// What holds after a body, where it starts from the precondition.
@@ -91,7 +86,10 @@ pub fn hoare(
 ) -> Result<Form, AllocError>
     ensures { IfOk result (λ made. made ≡ form_of (hoare (body list) pre post)) }
 {
-    judgment(alloc, Head::Hoare(Subject::Body(Cmd { list })), pre, post)
+    let args = conditions(alloc, pre, post)?;
+    let ty = truth_ty(alloc)?;
+    let head = Head::Hoare(Subject::Body(Cmd { list }));
+    term(alloc, head, args, ty)
 }
 
 /// How likely the postcondition is after a body, where it starts from the precondition.
@@ -105,17 +103,10 @@ pub fn phoare(
 ) -> Result<Form, AllocError>
     ensures { IfOk result (λ made. made ≡ form_of (phoare (body list) rel pre post bound)) }
 {
-    let mut args = Items::new(alloc);
-    args.push(pre)?;
-    args.push(post)?;
-    args.push(bound)?;
+    let args = Items::from_vec(vec![in alloc; pre, post, bound]?);
     let ty = truth_ty(alloc)?;
-    term(
-        alloc,
-        Head::Phoare(Subject::Body(Cmd { list }), rel),
-        args,
-        ty,
-    )
+    let head = Head::Phoare(Subject::Body(Cmd { list }), rel);
+    term(alloc, head, args, ty)
 }
 
 /// The equivalence of two bodies.
@@ -128,7 +119,9 @@ pub fn equiv(
 ) -> Result<Form, AllocError>
     ensures { IfOk result (λ made. made ≡ form_of (equiv (body left) (body right) pre post)) }
 {
+    let args = conditions(alloc, pre, post)?;
+    let ty = truth_ty(alloc)?;
     let left = Subject::Body(Cmd { list: left });
     let right = Subject::Body(Cmd { list: right });
-    judgment(alloc, Head::Equiv(left, right), pre, post)
+    term(alloc, Head::Equiv(left, right), args, ty)
 }

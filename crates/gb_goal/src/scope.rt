@@ -29,17 +29,31 @@ pub struct Constant {
 }
 
 /// An operator with a body, in which the parameters are the innermost bound variables, the last one first.
-#[derive(Drop)]
 pub struct Operator {
     pub params: SharedItems<Shared<Ty>>,
     pub body: Term,
 }
 
+impl Drop for Operator {
+    fn drop(self) {
+        let Operator { params, body } = self;
+        drop(params);
+        drop(body);
+    }
+}
+
 /// The types of an operator's parameters, and that of its result.
-#[derive(Drop)]
 pub struct OperatorType {
     pub params: SharedItems<Shared<Ty>>,
     pub result: Shared<Ty>,
+}
+
+impl Drop for OperatorType {
+    fn drop(self) {
+        let OperatorType { params, result } = self;
+        drop(params);
+        drop(result);
+    }
 }
 
 /// What a binder of a lemma binds.
@@ -53,10 +67,17 @@ pub enum Binder {
 pub type Binders = SharedItems<Binder>;
 
 /// A procedure of a declared module, by the names of both. A script writes them with a dot between.
-#[derive(Drop)]
 pub struct ProcName {
     pub module: Name,
     pub name: Name,
+}
+
+impl Drop for ProcName {
+    fn drop(self) {
+        let ProcName { module, name } = self;
+        drop(module);
+        drop(name);
+    }
 }
 
 impl ProcName {
@@ -132,9 +153,15 @@ fn weight(entry: &Entry) -> usize
 }
 
 /// All that a script has declared so far. Contracts see the list of names with what they name, in order of declaration.
-#[derive(Drop)]
 pub struct Scope {
     entries: IndexMap<String, Boxed<Entry>>,
+}
+
+impl Drop for Scope {
+    fn drop(self) {
+        let Scope { entries } = self;
+        drop(entries);
+    }
 }
 
 impl Model for Scope {

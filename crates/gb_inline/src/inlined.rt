@@ -2,6 +2,7 @@
 
 ghost use Rattle.std.specs.Prelude.{◌≡◌, ◌++◌, ◌∷◌, [], IfOk};
 ghost use Rattle.gb_inline.specs.Inlined.{asked, each_inlined, inlined, is_asked, statement_inlined, used, without_calls};
+ghost use Rattle.gb_walk.specs.Clash.{variables_read};
 ghost use Rattle.gb_inline.specs.Asking.{expansion, once_asked};
 
 use crate::expanded::expanded;
@@ -174,15 +175,21 @@ fn each_inlined(
     Ok(None)
 }
 
+/// Variables behind others, with those that a form reads through a memory.
+fn with_read(alloc: Global, found: Vars, form: &Form, side: Side) -> Result<Vars, AllocError>
+    ensures { IfOk result (λ made. made ≡ found ++ variables_read side form.now) }
+{
+    let more = variables_read(alloc, form, side)?;
+    with_variables(alloc, found, more.as_slice())
+}
+
 /// The variables of a memory in which a body runs that it or its conditions read or write.
 fn used(alloc: Global, asks: &Asking<'_>, list: &[Instr]) -> Result<Vars, AllocError>
     ensures { IfOk result (λ made. made ≡ used asks.now.side asks.now.pre.now asks.now.post.now list.now) }
 {
     let found = touched(alloc, Items::new(alloc), list)?;
-    let before = variables_read(alloc, asks.pre, asks.side)?;
-    let found = with_variables(alloc, found, before.as_slice())?;
-    let after = variables_read(alloc, asks.post, asks.side)?;
-    with_variables(alloc, found, after.as_slice())
+    let found = with_read(alloc, found, asks.pre, asks.side)?;
+    with_read(alloc, found, asks.post, asks.side)
 }
 
 /// The body with the first call inlined that is asked for. None where there is no such call.

@@ -3,3 +3,4 @@ pub mod Places
 pub mod Gathered
 pub mod Passed
 pub mod Taken
+pub mod Steps

@@ -5,7 +5,7 @@ use Rattle.gb_core.specs.declared.refusal.Refused.TheVariants.{NoMemory, ReadFau
 use Rattle.gb_goal.specs.Answers.{Answer, ◌>>=◌, Answers, Fails}
 use Rattle.gb_goal.specs.Answers.Answer.{given}
 
-passes : {A B : Type 0} (a : Answer A) (k : A → Answer B) (e : Refused) → Fails a e → Fails (a >>= k) e
+pub passes : {A B : Type 0} (a : Answer A) (k : A → Answer B) (e : Refused) → Fails a e → Fails (a >>= k) e
 passes a k NoMemory h = tt
 passes a k ReadFault h = h
 passes a k (Script w p) h = ap (λ z. z >>= k) h
@@ -20,3 +20,6 @@ leads_on b a k x is h = is ∙ ap (λ z. z >>= k) h
 
 pub answers_as : {A : Type 0} (a b : Answer A) (r : Result A Refused) → a ≡ b → Answers b r → Answers a r
 answers_as a b r e h = subst (λ z. Answers z r) (sym e) h
+
+pub fails_with : {A : Type 0} (a : Answer A) (r : Result A Refused) (e : Refused) → Fails a e → r ≡ Err e → Answers a r
+fails_with a r e h q = subst (Answers a) (sym q) h

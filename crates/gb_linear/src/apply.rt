@@ -1,6 +1,6 @@
 // The rule `linear`.
 
-ghost use Rattle.std.specs.Prelude.{◌≡◌, Some, None, IfOk, IfSome};
+ghost use Rattle.std.specs.Prelude.{◌≡◌, not, ◌||◌, Some, None, IfOk, IfSome};
 ghost use Rattle.std.specs.List.{list_all};
 ghost use Rattle.gb_goal.specs.Answers.{Answers};
 ghost use Rattle.gb_linear.specs.Closing.{added, all_assumed, assumed, between, closed_by, closed_with, closing, compared, difference, factor_of, is_allowed, is_closed, is_number, linear_answer, with_all};
@@ -17,22 +17,39 @@ use gb_num::Frac;
 use gb_steps::step::Multiple;
 use gb_terms::op::Op;
 use gb_terms::term::{Form, Head, Term};
-use sqlite_items::Items;
+use sqlite_items::{Items, at};
 use std::alloc::{AllocError, Global};
 
 /// The form `left = right` or `left <= right`, between whole numbers or reals.
-#[derive(Drop)]
 pub struct Comparison {
     pub equal: bool,
     pub left: Term,
     pub right: Term,
 }
 
+impl Drop for Comparison {
+    fn drop(self) {
+        let Comparison {
+            equal: _,
+            left,
+            right,
+        } = self;
+        drop(left);
+        drop(right);
+    }
+}
+
 /// What a hypothesis says, and its multiplier.
-#[derive(Drop)]
 pub struct Assumption {
     pub factor: Option<Frac>,
     pub says: Comparison,
+}
+
+impl Drop for Assumption {
+    fn drop(self) {
+        let Assumption { factor: _, says } = self;
+        drop(says);
+    }
 }
 
 fn is_number(ty: &Ty) -> bool
@@ -64,20 +81,30 @@ fn compared(form: &Form) -> Result<Option<Comparison>, AllocError>
     }
 }
 
-/// The hypothesis of a multiple; for an equation equations alone are used.
+/// Whether a comparison is used: for an equation equations alone are.
+fn is_usable(equal: bool, says: &Comparison) -> bool
+    ensures { result ≡ (not equal || says.now.equal) }
+{
+    !equal || says.equal
+}
+
+/// The hypothesis of a multiple.
 fn assumed(equal: bool, hyps: &[Hyp], multiple: Multiple) -> Result<Option<Assumption>, AllocError>
     ensures { IfOk result (λ made. made ≡ assumed equal hyps.now multiple) }
 {
-    let Some(hyp) = hyps.get(multiple.hyp) else {
+    let Some(hyp) = at(hyps, multiple.hyp) else {
         return Ok(None);
     };
-    match compared(&hyp.form)? {
-        Some(says) if !equal || says.equal => Ok(Some(Assumption {
-            factor: multiple.factor,
-            says,
-        })),
-        _ => Ok(None),
+    let Some(says) = compared(&hyp.form)? else {
+        return Ok(None);
+    };
+    if !is_usable(equal, &says) {
+        return Ok(None);
     }
+    Ok(Some(Assumption {
+        factor: multiple.factor,
+        says,
+    }))
 }
 
 /// The hypotheses of multiples, where each can be used.

@@ -16,10 +16,19 @@ use sqlite_items::Items;
 use std::alloc::{AllocError, Global};
 
 /// A constant, and different terms with their coefficients.
-#[derive(Drop)]
 pub struct LinearForm {
     pub constant: Frac,
     pub summands: Summands,
+}
+
+impl Drop for LinearForm {
+    fn drop(self) {
+        let LinearForm {
+            constant: _,
+            summands,
+        } = self;
+        drop(summands);
+    }
 }
 
 #[tactic(auto, using(crate::proofs::Same::same_is))]

@@ -1,8 +1,10 @@
 pub mod CalledSteps
 pub mod OrderSteps
 pub mod TouchedSteps
+pub mod ReachSteps
 pub mod ReadSteps
 pub mod WrittenSteps
 pub mod Closed
 pub mod Meeting
 pub mod ExclusionSteps
+pub mod FrontSteps

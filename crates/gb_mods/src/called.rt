@@ -1,6 +1,6 @@
 //! Which procedures a procedure calls.
 
-ghost use Rattle.std.specs.Prelude.{◌≡◌, ◌++◌, IfOk};
+ghost use Rattle.std.specs.Prelude.{◌≡◌, [], ◌∷◌, ◌++◌, IfOk};
 ghost use Rattle.gb_mods.specs.Called.{added, all_reached, called, called_by, calls, is_among, same_procedure, statement_calls};
 
 use crate::meant::{Meant, meant_by};
@@ -15,6 +15,16 @@ use std::alloc::{AllocError, Global};
 
 pub type Procedures = Items<Shared<ProcRef>>;
 
+/// A procedure behind others.
+fn with_procedure(found: Procedures, procedure: &Shared<ProcRef>) -> Result<Procedures, AllocError>
+    ensures { IfOk result (λ made. made ≡ found ++ procedure.now ∷ []) }
+{
+    let procedure = procedure.share()?;
+    let mut all = found;
+    all.push(procedure)?;
+    Ok(all)
+}
+
 /// Procedures behind others, with those that a statement calls itself, and those of the statements in it.
 #[cycle(calls)]
 #[tactic(auto, using(crate::proofs::CalledSteps::calls_if, crate::proofs::CalledSteps::calls_while))]
@@ -26,11 +36,7 @@ fn statement_calls(
     ensures { IfOk result (λ made. made ≡ found ++ statement_calls statement.now) }
 {
     match statement {
-        Instr::Call(_, procedure, _) => {
-            let mut all = found;
-            all.push(procedure.share()?)?;
-            Ok(all)
-        }
+        Instr::Call(_, procedure, _) => with_procedure(found, procedure),
         Instr::If(_, yes, no) => {
             let found = calls(alloc, found, yes.list.as_slice())?;
             calls(alloc, found, no.list.as_slice())
@@ -77,7 +83,7 @@ pub fn added(found: Procedures, list: &[Shared<ProcRef>]) -> Result<Procedures, 
     let mut all = found;
     for x in list {
         if !is_among(all.as_slice(), x.get()) {
-            all.push(x.share()?)?;
+            all = with_procedure(all, x)?;
         }
     }
     Ok(all)
@@ -89,7 +95,7 @@ fn with_procedures(found: Procedures, list: &[Shared<ProcRef>]) -> Result<Proced
 {
     let mut all = found;
     for x in list {
-        all.push(x.share()?)?;
+        all = with_procedure(all, x)?;
     }
     Ok(all)
 }

@@ -78,7 +78,8 @@ fn are_known(alloc: Global, scope: &Scope, list: &[Shared<ProcRef>]) -> Result<b
     ensures { IfOk result (λ b. b ≡ are_known scope.now list.now) }
 {
     for x in list {
-        if let Meant::Unknown = meant_by(alloc, scope, x.get())? {
+        let meant = meant_by(alloc, scope, x.get())?;
+        if matches!(&meant, Meant::Unknown) {
             return Ok(false);
         }
     }

@@ -18,7 +18,6 @@ use sqlite_items::Items;
 use std::alloc::{AllocError, Global};
 
 /// What a reference to a procedure stands for.
-#[derive(Drop)]
 pub enum Meant {
     /// Nothing that is known.
     Unknown,
@@ -26,6 +25,19 @@ pub enum Meant {
     Declared(Shared<Proc>),
     /// Any procedure of its signature, of the abstract module of this name: it may touch all that is the module's own, and calls these.
     Any(Name, Procedures),
+}
+
+impl Drop for Meant {
+    fn drop(self) {
+        match self {
+            Meant::Unknown => {}
+            Meant::Declared(procedure) => drop(procedure),
+            Meant::Any(module, oracles) => {
+                drop(module);
+                drop(oracles);
+            }
+        }
+    }
 }
 
 /// Any procedure of an abstract module, where the reference is to one.

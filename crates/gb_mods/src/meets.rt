@@ -232,8 +232,8 @@ fn only_named(
 ) -> Result<(), Refused>
     ensures { Answers (named_if params.now oracles.now (reached_from scope.now (option_copied around.entry) (with_open «module».now params.now name.now ∷ [])) place) result }
 {
-    let mut first = Items::new(alloc);
-    first.push(with_open(alloc, module, params, name)?)?;
+    let procedure = with_open(alloc, module, params, name)?;
+    let first = Items::from_vec(vec![in alloc; procedure]?);
     match all_from(alloc, scope, around, first)? {
         Some(all) => all_named(alloc, params, oracles, all.as_slice(), place),
         None => Err(Refused::Script {

@@ -13,13 +13,23 @@ use gb_walk::clash::comes_before;
 use sqlite_items::Items;
 use std::alloc::{AllocError, Global};
 
+/// A variable behind others.
+pub fn with_variable(alloc: Global, found: Vars, variable: &Var) -> Result<Vars, AllocError>
+    ensures { IfOk result (λ made. made ≡ found ++ variable.now ∷ []) }
+{
+    let variable = copy_var(alloc, variable)?;
+    let mut all = found;
+    all.push(variable)?;
+    Ok(all)
+}
+
 /// Variables behind others.
 pub fn with_variables(alloc: Global, found: Vars, list: &[Var]) -> Result<Vars, AllocError>
     ensures { IfOk result (λ made. made ≡ found ++ list.now) }
 {
     let mut all = found;
     for variable in list {
-        all.push(copy_var(alloc, variable)?)?;
+        all = with_variable(alloc, all, variable)?;
     }
     Ok(all)
 }
@@ -32,7 +42,7 @@ pub fn globals_among(alloc: Global, list: &[Var]) -> Result<Vars, AllocError>
     for variable in list {
         match variable {
             Var::Local { .. } => {}
-            _ => all.push(copy_var(alloc, variable)?)?,
+            _ => all = with_variable(alloc, all, variable)?,
         }
     }
     Ok(all)
@@ -47,16 +57,15 @@ fn placed(alloc: Global, variable: &Var, list: &[Var]) -> Result<Vars, AllocErro
     for i in 0..list.len() {
         let other = &list[i];
         if comes_before(variable, other) {
-            before.push(copy_var(alloc, variable)?)?;
+            let before = with_variable(alloc, before, variable)?;
             return with_variables(alloc, before, &list[i..]);
         }
         if same_var(variable, other) {
             return with_variables(alloc, before, &list[i..]);
         }
-        before.push(copy_var(alloc, other)?)?;
+        before = with_variable(alloc, before, other)?;
     }
-    before.push(copy_var(alloc, variable)?)?;
-    Ok(before)
+    with_variable(alloc, before, variable)
 }
 
 /// Variables in their places among variables in order.
@@ -75,8 +84,6 @@ pub fn joined(alloc: Global, list: &[Var], ordered: Vars) -> Result<Vars, AllocE
 pub fn all_of(alloc: Global, module: &Name) -> Result<Vars, AllocError>
     ensures { IfOk result (λ made. made ≡ Glob «module».now ∷ []) }
 {
-    let mut all = Items::new(alloc);
     let module = module.copy(alloc)?;
-    all.push(Var::Glob { module })?;
-    Ok(all)
+    Ok(Items::from_vec(vec![in alloc; Var::Glob { module }]?))
 }

@@ -48,8 +48,8 @@ fn reached_from(
 ) -> Result<Option<Procedures>, AllocError>
     ensures { IfOk result (λ made. made ≡ all_reached scope.now (procedure.now ∷ [])) }
 {
-    let mut first = Items::new(alloc);
-    first.push(procedure.share()?)?;
+    let procedure = procedure.share()?;
+    let first = Items::from_vec(vec![in alloc; procedure]?);
     all_reached(alloc, scope, first)
 }
 
@@ -95,12 +95,26 @@ pub fn proc_writes(
 
 /// What a procedure is linked to: what it takes, what it keeps for itself, what it does and what it returns. Each call in the body
 /// names the procedure that it is linked to in turn.
-#[derive(Drop)]
 pub struct Linked {
     pub params: Typed,
     pub locals: Typed,
     pub body: Cmd,
     pub result: Term,
+}
+
+impl Drop for Linked {
+    fn drop(self) {
+        let Linked {
+            params,
+            locals,
+            body,
+            result,
+        } = self;
+        drop(params);
+        drop(locals);
+        drop(body);
+        drop(result);
+    }
 }
 
 /// A declared procedure, linked.

@@ -5,8 +5,7 @@ ghost use Rattle.gb_meaning.specs.Footprints.{globals_among, head_variables, var
 ghost use Rattle.gb_mods.specs.Touched.{each_touched, each_variables, statement_touched, touched_in, touched_itself};
 
 use crate::meant::Meant;
-use crate::order::{all_of, globals_among, with_variables};
-use gb_core::copy::copy_var;
+use crate::order::{all_of, globals_among, with_variable, with_variables};
 use gb_core::var::Vars;
 use gb_terms::decl::Proc;
 use gb_terms::op::Read;
@@ -18,12 +17,10 @@ use std::alloc::{AllocError, Global};
 fn with_head(alloc: Global, found: Vars, head: &Head) -> Result<Vars, AllocError>
     ensures { IfOk result (λ made. made ≡ found ++ head_variables head.now) }
 {
-    let mut all = found;
     match head {
-        Head::Read(Read::Program { var, .. }) => all.push(copy_var(alloc, var)?)?,
-        _ => {}
+        Head::Read(Read::Program { var, .. }) => with_variable(alloc, found, var),
+        _ => Ok(found),
     }
-    Ok(all)
 }
 
 /// Variables behind others, with those that an expression reads.
@@ -58,9 +55,8 @@ fn statement_touched(alloc: Global, found: Vars, statement: &Instr) -> Result<Va
             variables(alloc, found, value)
         }
         Instr::Sample(target, distribution) => {
-            let mut all = found;
-            all.push(copy_var(alloc, target)?)?;
-            variables(alloc, all, distribution)
+            let found = with_variable(alloc, found, target)?;
+            variables(alloc, found, distribution)
         }
         Instr::Call(targets, _, args) => {
             let found = with_variables(alloc, found, targets.as_slice())?;

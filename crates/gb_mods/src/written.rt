@@ -5,9 +5,8 @@ ghost use Rattle.gb_meaning.specs.Footprints.{globals_among};
 ghost use Rattle.gb_mods.specs.Written.{statement_targets, targets, written_by, written_itself};
 
 use crate::meant::{Meant, meant_by};
-use crate::order::{all_of, globals_among, with_variables};
+use crate::order::{all_of, globals_among, with_variable, with_variables};
 use gb_core::Shared;
-use gb_core::copy::copy_var;
 use gb_core::var::Vars;
 use gb_goal::scope::Scope;
 use gb_terms::decl::Proc;
@@ -25,11 +24,7 @@ fn statement_targets(alloc: Global, found: Vars, statement: &Instr) -> Result<Va
     match statement {
         Instr::Assign(targets, _) => with_variables(alloc, found, targets.as_slice()),
         Instr::Call(targets, _, _) => with_variables(alloc, found, targets.as_slice()),
-        Instr::Sample(target, _) => {
-            let mut all = found;
-            all.push(copy_var(alloc, target)?)?;
-            Ok(all)
-        }
+        Instr::Sample(target, _) => with_variable(alloc, found, target),
         Instr::If(_, yes, no) => {
             let found = targets(alloc, found, yes.list.as_slice())?;
             targets(alloc, found, no.list.as_slice())

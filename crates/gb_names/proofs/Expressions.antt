@@ -2,6 +2,7 @@
 use Rattle.std.proofs.Common.{◌≡◌, true, if◌then◌else◌, ◌≤◌, List, [], ◌∷◌, map, length, get_or, drop, refl, ap, sym, ◌∙◌, arith}
 use Rattle.gb_core.specs.declared.place.Place.{Place}
 use Rattle.gb_core.specs.declared.refusal.Why.TheVariants.{Argument}
+use Rattle.gb_script.specs.declared.head.Head.{Head}
 use Rattle.gb_script.specs.declared.head.Head.TheVariants as head
 use Rattle.gb_script.specs.declared.tree.Node.{Node}
 use Rattle.gb_script.specs.Tree.{head_of, text_of, parts_of, place_of}
@@ -9,7 +10,7 @@ use Rattle.gb_goal.specs.Answers.Answer.{refused}
 use Rattle.gb_names.specs.declared.bindings.Binding.{Binding}
 use Rattle.gb_names.specs.Environment.{Environment, Name}
 use Rattle.gb_names.specs.Modules.{Part, Read, applied, bracketed, expression, module_at, names, read, read_by, wholes, with_modules, with_readings}
-use Rattle.gb_names.specs.Names.{spelled_by}
+use Rattle.gb_names.specs.Names.{path, spelled_by}
 use Rattle.gb_names.proofs.Nodes.{said_is}
 
 read_is : (t : Node) → read t ≡ read_by (head_of t) (text_of t) (with_readings (parts_of t)) (place_of t)
@@ -48,3 +49,20 @@ module _ (x : Name) (p : Place) (at : Environment) (bound : List Binding) where
   application_is m b h =
       ap (λ z. if z then bracketed (spelled_by m) (head_of b) (read b).parts p at bound else refused Argument p) h
       ∙ ap (λ ts. bracketed (spelled_by m) (head_of b) ts p at bound) (parts_read b)
+
+  pub name_is : (ts : List Node) → expression head.Name x (with_readings ts) p at bound ≡ applied x p [] at bound
+  unfolding expression
+  name_is ts = refl
+
+  pub path_is : (ts : List Node) → expression head.Path x (with_readings ts) p at bound ≡ applied (path ts) p [] at bound
+  unfolding expression
+  path_is ts = ap (λ ws. applied (path ws) p [] at bound) (words_read ts)
+
+  -- other forms are no modules
+  pub no_module : (h : Head) (ts : List Part) → (h ≡ head.Name → ⊥) → (h ≡ head.Path → ⊥) → (h ≡ head.ModuleExpression → ⊥) → (h ≡ head.Apply → ⊥) → expression h x ts p at bound ≡ refused Argument p
+  unfolding expression
+  no_module head.Name ts a b c d = absurd (a refl)
+  no_module head.Path ts a b c d = absurd (b refl)
+  no_module head.ModuleExpression ts a b c d = absurd (c refl)
+  no_module head.Apply ts a b c d = absurd (d refl)
+  no_module _ ts a b c d = refl

@@ -4,11 +4,9 @@ use Rattle.std.proofs.lemmas.List.{map-append}
 use Rattle.gb_core.specs.declared.place.Place.{Place}
 use Rattle.gb_core.specs.declared.refusal.Why.{Why}
 use Rattle.gb_core.specs.declared.refusal.Why.TheVariants.{Argument}
-use Rattle.gb_terms.specs.declared.decl.Module.{Module}
 use Rattle.gb_terms.specs.declared.decl.Param.{Param}
 use Rattle.gb_terms.specs.declared.module.Mexp.{Mexp, Row_of-Mexp, end_of-Mexp, more_of-Mexp, items-the_row-Mexp, items_hidden-the_row-Mexp-0}
 use Rattle.gb_terms.specs.declared.module.Mexp.TheBlock as M
-use Rattle.gb_terms.specs.declared.module.Mexp.TheVariants.{Name as named, Apply}
 use Rattle.gb_goal.specs.Answers.{Answer, ◌>>=◌, given_or}
 use Rattle.gb_goal.specs.Answers.Answer.{given, refused}
 use Rattle.gb_goal.specs.Interfaces as interfaces
@@ -171,7 +169,7 @@ module _ (at : Environment) (bound : List Binding) where
   expression_right head.ModuleExpression x [] p k e = cc
   expression_right head.ModuleExpression x (m ∷ ks) p k e = applied_right (spelled_by m.0) (place_of m.0) (wholes (parts read_by AreKnown ks)) (all_right ks) k e
   expression_right head.Apply x ks p k e = application_right ks p k e
-  expression_right _ x ks p k e = cc
+  expression_right _ x ks p k e = refused_right p k e
 
   -- what is known of a module expression that is typed
   pub module_known : (t : Node) → IsRight (module_at t)

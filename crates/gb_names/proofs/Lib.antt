@@ -5,4 +5,5 @@ pub mod Nodes
 pub mod Parts
 pub mod Spellings
 pub mod Expressions
+pub mod Applied
 pub mod KnownModules

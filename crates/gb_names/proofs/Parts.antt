@@ -1,11 +1,24 @@
 -- Lists of so many parts, and what is left of a list.
-use Rattle.std.proofs.Common.{◌≡◌, ℕ, zero, suc, ◌+◌, ◌-◌, ◌<◌, ◌≤◌, List, [], ◌∷◌, length, get_or, take, drop, refl, ap, sym, subst, ◌∙◌, arith, add-one, drop-cons, length-drop, take_all}
+use Rattle.std.proofs.Common.{◌≡◌, Bool, true, false, ◌||◌, ℕ, zero, suc, ◌+◌, ◌-◌, ◌<◌, ◌≤◌, List, [], ◌∷◌, length, get_or, take, drop, refl, ap, sym, subst, ◌∙◌, arith, add-one, drop-cons, length-drop, take_all}
+use Rattle.std.proofs.lemmas.List.{drop_all}
+use Rattle.std.specs.List.{list_any}
 use denote.Param.Weighed.{most}
 
 module _ {A : Type 0} where
   -- what is left of a list begins with the element at which a loop stands
   pub left : (xs : List A) (i : ℕ) (x : A) → i < length xs → x ≡ get_or xs i x → drop i xs ≡ x ∷ drop (i + 1) xs
   left xs i x h e = rw (drop-cons xs i x, add-one) (rw (← e) refl)
+
+  -- whether one of those from an element on is of a kind
+  module _ (p : A → Bool) (xs : List A) (i : ℕ) where
+    pub any_here : (x : A) → i < length xs → x ≡ get_or xs i x → p x ≡ true → list_any p (drop i xs) ≡ true
+    any_here x h e t = ap (list_any p) (left xs i x h e) ∙ ap (λ b. b || list_any p (drop (i + 1) xs)) t
+
+    pub any_later : (x : A) → i < length xs → x ≡ get_or xs i x → p x ≡ false → list_any p (drop i xs) ≡ list_any p (drop (i + 1) xs)
+    any_later x h e t = ap (list_any p) (left xs i x h e) ∙ ap (λ b. b || list_any p (drop (i + 1) xs)) t
+
+    pub any_none : length xs ≤ i → list_any p (drop i xs) ≡ false
+    any_none h = ap (list_any p) (drop_all i xs h)
 
   pub one : (xs : List A) (x : A) → 1 ≤ length xs → length xs < 2 → x ≡ get_or xs 0 x → xs ≡ x ∷ []
   one [] x h k e = absurd (omega (arith, h))

@@ -1,5 +1,5 @@
 -- Where a term reads a local in a named memory, by its parts.
-use Rattle.std.proofs.Common.{◌≡◌, Bool, if◌then◌else◌, List, map, Option, Some, refl, ap, ◌∙◌}
+use Rattle.std.proofs.Common.{◌≡◌, Bool, if◌then◌else◌, map, Option, Some, refl, ap, ◌∙◌}
 use Rattle.gb_core.specs.declared.ty.Ty.{Ty}
 use Rattle.gb_core.specs.declared.var.Var.TheVariants as var
 use Rattle.gb_terms.specs.declared.op.Read.TheVariants.{Logical, Program}

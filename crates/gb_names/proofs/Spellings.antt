@@ -1,8 +1,9 @@
 -- What types spell, head by head, and what the parts of a tuple spell.
-use Rattle.std.proofs.Common.{◌≡◌, ℕ, zero, suc, ◌+◌, ◌<◌, ◌≤◌, List, [], ◌∷◌, ◌++◌, map, min, length, get_or, take, drop, refl, ap, sym, ◌∙◌, arith}
+use Rattle.std.proofs.Common.{◌≡◌, ℕ, zero, suc, ◌+◌, ◌<◌, ◌≤◌, List, [], ◌∷◌, ◌++◌, map, min, length, get_or, take, drop, Option, None, refl, ap, sym, ◌∙◌, arith}
 use Rattle.std.proofs.lemmas.List.{append_assoc, drop_all, get_or-take, length-take}
 use Rattle.gb_core.specs.declared.place.Place.{Place}
 use Rattle.gb_core.specs.declared.ty.Ty.{Ty}
+use Rattle.gb_core.specs.declared.ty.Ty.TheVariants as ty
 use Rattle.gb_core.specs.declared.refusal.Refused.{Refused}
 use Rattle.gb_script.specs.declared.head.Head.{Head}
 use Rattle.gb_script.specs.declared.head.Head.TheVariants as head
@@ -11,10 +12,10 @@ use Rattle.gb_script.specs.Tree.{head_of, text_of, parts_of, place_of}
 use Rattle.gb_goal.specs.Answers.{Answer, ◌>>=◌, Fails, not_built}
 use Rattle.gb_goal.specs.Answers.Answer.{given, refused}
 use Rattle.gb_goal.specs.Scope.{Declarations}
-use Rattle.gb_names.specs.Types.{all_given, all_spelled, number_type, number_typing, spelling, spelled, with_number_types, with_spellings, words, Spelling}
+use Rattle.gb_names.specs.Types.{all_given, all_spelled, map_type, number_type, number_typing, option_type, spelling, spelled, with_number_types, with_spellings, words, Spelling}
 use Rattle.gb_names.proofs.Answers.{passes}
 use Rattle.gb_names.proofs.Nodes.{said_is}
-use Rattle.gb_names.proofs.Parts.{left}
+use Rattle.gb_names.proofs.Parts.{left, one, two}
 
 pub spelled_is : (t : Node) (ds : Declarations) (p : Place)
     → spelled t ds p ≡ spelling (head_of t) (text_of t) (with_spellings (parts_of t)) (place_of t) ds p
@@ -39,6 +40,20 @@ no_type head.OptionType x us q ds p a b c d e f g i j = absurd (g refl)
 no_type head.Name x us q ds p a b c d e f g i j = absurd (i refl)
 no_type head.Path x us q ds p a b c d e f g i j = absurd (j refl)
 no_type _ x us q ds p a b c d e f g i j = refl
+
+-- maps and options, by their parts
+module _ (ds : Declarations) (p : Place) where
+  abbrev pub map_of : Node → Ty → Answer Ty
+  map_of b t = spelled b ds p >>= λ u. given (ty.Map t u)
+
+  abbrev pub option_of : Ty → Answer Ty
+  option_of t = given (ty.Opt t)
+
+  pub map_is : (ts : List Node) (a b : Node) → 2 ≤ length ts → length ts < 3 → a ≡ get_or ts 0 a → b ≡ get_or ts 1 b → map_type (with_spellings ts) ds p ≡ (spelled a ds p >>= map_of b)
+  map_is ts a b h k e f = ap (λ us. map_type (with_spellings us) ds p) (two ts a b h k e f)
+
+  pub option_is : (ts : List Node) (a : Node) → 1 ≤ length ts → length ts < 2 → a ≡ get_or ts 0 a → option_type (with_spellings ts) ds p ≡ (spelled a ds p >>= option_of)
+  option_is ts a h k e = ap (λ us. option_type (with_spellings us) ds p) (one ts a h k e)
 
 -- what the parts of a tuple spell
 abbrev pub answers : Declarations → Place → List Node → List (Answer Ty)
@@ -81,3 +96,10 @@ module _ (n i : ℕ) (ts : List Node) where
 pub number_type_is : (t : Node) → number_type t ≡ number_typing (head_of t) (text_of t) (with_number_types (parts_of t))
 unfolding number_type
 number_type_is t = said_is (λ h x ps p. number_typing h x ps) t
+
+pub no_number_type : (h : Head) (x : List ℕ) (ps : List (Node × Option Ty)) → (h ≡ head.PlainType → ⊥) → (h ≡ head.IntType → ⊥) → (h ≡ head.BracketedType → ⊥) → number_typing h x ps ≡ None
+unfolding number_typing
+no_number_type head.PlainType x ps a b c = absurd (a refl)
+no_number_type head.IntType x ps a b c = absurd (b refl)
+no_number_type head.BracketedType x ps a b c = absurd (c refl)
+no_number_type _ x ps a b c = refl

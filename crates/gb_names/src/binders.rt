@@ -11,7 +11,7 @@ ghost use Rattle.gb_script.specs.Tree.{head_of, parts_of, place_of, text_of};
 ghost use Rattle.gb_names.specs.Binders.{bound_by, bound_in, memory_bound, new_names, of_type, over, over_all, quantifier_of, values};
 
 use crate::allowed::memory_here;
-use crate::bindings::{Binding, Bindings, Kind};
+use crate::bindings::{Binding, Bindings, Kind, add_value};
 use crate::refusals::{double, not_built};
 use crate::setting::Setting;
 use crate::types::type_of;
@@ -40,13 +40,10 @@ pub enum Quantifier {
 pub fn quantifier_of(word: &Name, place: Place) -> Result<Quantifier, Refused>
     ensures { Answers (quantifier_of word.now place) result }
 {
-    let text = word.as_str();
-    if text == "forall" {
-        Ok(Quantifier::Forall)
-    } else if text == "exists" {
-        Ok(Quantifier::Exists)
-    } else {
-        Err(not_built(place))
+    match word.as_str() {
+        "forall" => Ok(Quantifier::Forall),
+        "exists" => Ok(Quantifier::Exists),
+        _ => Err(not_built(place)),
     }
 }
 
@@ -70,13 +67,19 @@ pub fn variable(alloc: Global, name: &Name, ty: &Shared<Ty>) -> Result<TypedName
     Ok(TypedName { name, ty })
 }
 
-/// Values of one type under names.
-fn values(alloc: Global, names: &[Node], ty: &Shared<Ty>) -> Result<Bindings, AllocError>
-    ensures { IfOk result (λ made. made ≡ values names.now ty.now) }
+/// Values of one type under names, of which the first stands apart.
+fn values(
+    alloc: Global,
+    first: &Node,
+    more: &[Node],
+    ty: &Shared<Ty>,
+) -> Result<Bindings, AllocError>
+    ensures { IfOk result (λ made. made ≡ values (first.now ∷ more.now) ty.now) }
 {
     let mut all = Items::new(alloc);
-    for x in names {
-        all.push(Binding::value(alloc, &x.text, ty)?)?;
+    add_value(alloc, &mut all, &first.text, ty)?;
+    for x in more {
+        add_value(alloc, &mut all, &x.text, ty)?;
     }
     Ok(all)
 }
@@ -120,8 +123,7 @@ fn bound_in(
     match head {
         Head::Values => match parts {
             [first, more, ty] => {
-                new_names(alloc, beside, first, more.parts.as_slice())?;
-                typed_names(alloc, at.scope, first, more.parts.as_slice(), ty)
+                typed_names(alloc, at.scope, beside, first, more.parts.as_slice(), ty)
             }
             _ => Err(not_built(place)),
         },
@@ -200,21 +202,20 @@ fn new_names(alloc: Global, beside: &[Binding], first: &Node, more: &[Node]) -> 
     Ok(())
 }
 
-/// Values of the type that the text spells.
+/// Values of the type that the text spells, under names that are bound beside these.
 fn typed_names(
     alloc: Global,
     scope: &Scope,
+    beside: &[Binding],
     first: &Node,
     more: &[Node],
     ty: &Node,
 ) -> Result<Bindings, Refused>
-    ensures { Answers (type_of scope.now ty.now and_then λ t. given (values (first.now ∷ more.now) t)) result }
+    ensures { Answers (new_names beside.now [] (first.now ∷ more.now) and_then λ _. type_of scope.now ty.now and_then λ t. given (values (first.now ∷ more.now) t)) result }
 {
+    new_names(alloc, beside, first, more)?;
     let ty = type_of(alloc, scope, ty)?;
-    let mut all = Items::new(alloc);
-    all.push(Binding::value(alloc, &first.text, &ty)?)?;
-    all.append(values(alloc, more, &ty)?)?;
-    Ok(all)
+    values(alloc, first, more, &ty).map_err(Refused::from)
 }
 
 /// The quantifiers over these things, the first one innermost.

@@ -1,6 +1,6 @@
 // What is bound in a form.
 
-ghost use Rattle.std.specs.Prelude.{◌≡◌, ◌++◌, IfOk, map, reverse};
+ghost use Rattle.std.specs.Prelude.{◌≡◌, [], ◌∷◌, ◌++◌, IfOk, OnOk, map, reverse};
 ghost use Rattle.std.specs.Option.{option_copied};
 ghost use Rattle.gb_names.specs.Bindings.{binders_inside, bound_value, innermost, memory, value};
 
@@ -113,13 +113,25 @@ pub fn within(alloc: Global, bindings: Bindings, around: &[Binding]) -> Result<B
     Ok(all)
 }
 
+/// Binds one more value of this type.
+pub fn add_value(
+    alloc: Global,
+    all: &mut Bindings,
+    name: &Name,
+    ty: &Shared<Ty>,
+) -> Result<(), AllocError>
+    ensures { OnOk result (all.new ≡ all.old ++ value name.now ty.now ∷ []) }
+{
+    all.push(Binding::value(alloc, name, ty)?)
+}
+
 /// Variables as what is bound, in their order.
 pub fn bound_values(alloc: Global, variables: &[TypedName]) -> Result<Bindings, AllocError>
     ensures { IfOk result (λ made. made ≡ map bound_value variables.now) }
 {
     let mut all = Items::new(alloc);
     for x in variables {
-        all.push(Binding::value(alloc, &x.name, &x.ty)?)?;
+        add_value(alloc, &mut all, &x.name, &x.ty)?;
     }
     Ok(all)
 }

@@ -31,10 +31,30 @@ use gb_terms::term::Term;
 use std::alloc::{AllocError, Global};
 
 /// A global: the name of its module, and the variable there.
-#[derive(Drop)]
 pub struct ModuleVariable<'a> {
     pub owner: Name,
     pub variable: &'a TypedName,
+}
+
+impl<'a> Drop for ModuleVariable<'a> {
+    fn drop(self) {
+        let ModuleVariable { owner, variable: _ } = self;
+        drop(owner);
+    }
+}
+
+impl<'a> ModuleVariable<'a> {
+    /// The variable that a global is.
+    fn into_var(self, alloc: Global) -> Result<Var, AllocError>
+        ensures { IfOk result (λ made. made ≡ Var.Global self.entry.owner self.entry.variable.now.name) }
+    {
+        let ModuleVariable { owner, variable } = self;
+        let name = variable.name.copy(alloc)?;
+        Ok(Var::Global {
+            module: owner,
+            name,
+        })
+    }
 }
 
 /// What stands before the last dot of a name, and behind it.
@@ -261,17 +281,6 @@ pub fn no_procedure_of(
     }
 }
 
-/// The variable that a global is.
-fn variable_of(alloc: Global, global: ModuleVariable<'_>) -> Result<Var, AllocError>
-    ensures { IfOk result (λ made. made ≡ Var.Global global.entry.owner global.entry.variable.now.name) }
-{
-    let name = global.variable.name.copy(alloc)?;
-    Ok(Var::Global {
-        module: global.owner,
-        name,
-    })
-}
-
 /// A read of a global through a memory.
 pub fn global_variable(
     alloc: Global,
@@ -281,7 +290,7 @@ pub fn global_variable(
     ensures { Answers (given (global_variable side (global.entry.owner, global.entry.variable.now))) result }
 {
     let ty = global.variable.ty.share()?;
-    let var = variable_of(alloc, global)?;
+    let var = global.into_var(alloc)?;
     make::variable(alloc, var, side, ty).map_err(Refused::from)
 }
 
@@ -338,6 +347,6 @@ pub fn global_target(alloc: Global, global: ModuleVariable<'_>) -> Result<Target
     ensures { IfOk result (λ made. given (made.var, made.ty) ≡ global_target (global.entry.owner, global.entry.variable.now)) }
 {
     let ty = global.variable.ty.share()?;
-    let var = variable_of(alloc, global)?;
+    let var = global.into_var(alloc)?;
     Ok(Target { var, ty })
 }

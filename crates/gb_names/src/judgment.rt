@@ -30,7 +30,7 @@ use gb_script::head::Head as NodeHead;
 use gb_script::tree::Node;
 use gb_terms::decl::{Module, Typed, TypedName};
 use gb_terms::make;
-use gb_terms::module::ProcRef;
+use gb_terms::module::{Mexp, ProcRef};
 use gb_terms::term::{Form, Head, Subject, Terms};
 use sqlite_items::Items;
 use std::alloc::{AllocError, Global};
@@ -87,6 +87,14 @@ pub struct Named<'a> {
     pub ty: ProcedureType<'a>,
 }
 
+/// The procedure of this name of a module as a term names it.
+fn referred(alloc: Global, module: Mexp, name: &Name) -> Result<Shared<ProcRef>, AllocError>
+    ensures { IfOk result (λ made. made ≡ record { «module» = «module»; name = name.now }) }
+{
+    let name = name.copy(alloc)?;
+    Shared::new(alloc, ProcRef { module, name })
+}
+
 /// The procedure of this name that a module has, all of whose parameters are given.
 #[tactic(auto, unfolding(crate::specs::Judgments::procedure_of_module))]
 fn procedure_of_module<'a>(
@@ -102,8 +110,7 @@ fn procedure_of_module<'a>(
     let module = complete(known, place)?;
     match procedures.type_of(&name.text) {
         Some(ty) => {
-            let name = name.text.copy(alloc)?;
-            let reference = Shared::new(alloc, ProcRef { module, name })?;
+            let reference = referred(alloc, module, &name.text)?;
             Ok(Named { reference, ty })
         }
         None => Err(no_procedure_of(alloc, at, &module, &name.text, name.place)),
@@ -275,10 +282,17 @@ pub fn called<'a>(
 }
 
 /// The two procedures that a judgment is about.
-#[derive(Drop)]
 pub struct Both<'a> {
     pub left: Named<'a>,
     pub right: Named<'a>,
+}
+
+impl<'a> Drop for Both<'a> {
+    fn drop(self) {
+        let Both { left, right } = self;
+        drop(left);
+        drop(right);
+    }
 }
 
 /// Refuses a judgment about a body, which isn't built.

@@ -8,7 +8,7 @@ ghost use Rattle.gb_goal.specs.Answers.Answer.{given as of_answer};
 ghost use Rattle.gb_goal.specs.Seen.{seen};
 ghost use Rattle.gb_mods.specs.Meets.{known_seen};
 ghost use Rattle.gb_names.specs.Environment.{environment};
-ghost use Rattle.gb_names.specs.Modules.{all_given, applied, bracketed, complete, expression, fitting, given_seen, module_at, named_module, names, next_given, whole_module, with_given, with_modules, with_readings};
+ghost use Rattle.gb_names.specs.Modules.{all_given, applied, bracketed, complete, expression, fitting, given_seen, module_at, named_module, names, next_given, with_given, with_modules, with_readings};
 
 use crate::bindings::Binding;
 use crate::ended::check_ended;
@@ -54,10 +54,37 @@ fn named_module<'a>(
 }
 
 /// Modules that are given for parameters, and the parameters that are left.
-#[derive(Drop)]
 pub struct Given<'a> {
     pub modules: Mexps,
     pub left: &'a [Param],
+}
+
+impl<'a> Drop for Given<'a> {
+    fn drop(self) {
+        let Given { modules, left: _ } = self;
+        drop(modules);
+    }
+}
+
+impl<'a> Given<'a> {
+    /// The module of this name with these modules for its parameters.
+    fn of(
+        self,
+        alloc: Global,
+        name: &Name,
+        interface: Interface<'a>,
+    ) -> Result<Known<'a>, AllocError>
+        ensures { IfOk result (λ made. known_seen made ≡ with_given name.now (seen interface.entry) (given_seen self.entry)) }
+    {
+        let Given { modules, left } = self;
+        let plain = Mexp::Name(name.copy(alloc)?);
+        let module = given_more(alloc, &plain, modules)?;
+        let interface = Interface {
+            lacks: left,
+            procedures: interface.procedures,
+        };
+        Ok(Known { module, interface })
+    }
 }
 
 /// A module that is given for a parameter, of whose module type it is.
@@ -98,24 +125,6 @@ pub fn give(
     Ok(())
 }
 
-/// The module of this name with modules that are given for its parameters.
-fn with_given<'a>(
-    alloc: Global,
-    name: &Name,
-    interface: Interface<'a>,
-    given: Given<'a>,
-) -> Result<Known<'a>, AllocError>
-    ensures { IfOk result (λ made. known_seen made ≡ with_given name.now (seen interface.entry) (given_seen given.entry)) }
-{
-    let plain = Mexp::Name(name.copy(alloc)?);
-    let module = given_more(alloc, &plain, given.modules)?;
-    let interface = Interface {
-        lacks: given.left,
-        procedures: interface.procedures,
-    };
-    Ok(Known { module, interface })
-}
-
 /// The module of this name with these arguments.
 ///
 /// # Errors
@@ -143,7 +152,7 @@ pub fn applied<'a>(
     for tree in arguments {
         give(alloc, at, bound, &mut given, tree)?;
     }
-    with_given(alloc, name, interface, given).map_err(Refused::from)
+    given.of(alloc, name, interface).map_err(Refused::from)
 }
 
 /// The same, where the first argument stands apart.
@@ -168,7 +177,7 @@ pub fn applied_to<'a>(
     for tree in more {
         give(alloc, at, bound, &mut given, tree)?;
     }
-    with_given(alloc, name, interface, given).map_err(Refused::from)
+    given.of(alloc, name, interface).map_err(Refused::from)
 }
 
 /// Whether a name stands there.
@@ -274,21 +283,4 @@ pub fn complete(known: Known<'_>, place: Place) -> Result<Mexp, Refused>
     } else {
         Err(argument(place))
     }
-}
-
-/// The module of a module expression that lacks nothing.
-///
-/// # Errors
-///
-/// Those of `module_at`, and `Argument` where modules aren't given for all parameters.
-pub fn whole_module(
-    alloc: Global,
-    at: &Setting<'_>,
-    bound: &[Binding],
-    tree: &Node,
-) -> Result<Mexp, Refused>
-    ensures { Answers (whole_module (environment at.now) bound.now tree.now) result }
-{
-    let known = module_at(alloc, at, bound, tree)?;
-    complete(known, tree.place)
 }

@@ -1,5 +1,5 @@
 -- The types of terms, one after another.
-use Rattle.std.proofs.Common.{◌≡◌, ℕ, zero, suc, ◌+◌, ◌<◌, List, [], ◌∷◌, ◌++◌, map, length, get_or, take, ap, sym, ◌∙◌, arith}
+use Rattle.std.proofs.Common.{◌≡◌, ℕ, zero, suc, ◌+◌, ◌<◌, List, [], ◌∷◌, ◌++◌, map, length, get_or, take, ap, ◌∙◌, arith}
 use Rattle.gb_core.specs.declared.ty.Ty.{Ty}
 use Rattle.gb_terms.specs.declared.term.Term.{Term}
 use Rattle.gb_names.specs.Wanted.{type_of_term}

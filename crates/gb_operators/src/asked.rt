@@ -1,14 +1,22 @@
 // What is asked of the parts of forms, from left to right.
 
+ghost use Rattle.std.specs.Prelude.{◌≡◌, IfOk};
 ghost use Rattle.std.specs.Option.{option_copied};
-ghost use Rattle.gb_goal.specs.Answers.{Answers, Gives};
+ghost use Rattle.gb_goal.specs.Answers.{Answers, Gives, ◌>>=◌ as ◌and_then◌};
+ghost use Rattle.gb_goal.specs.Answers.Answer.{given};
 ghost use Rattle.gb_names.specs.Environment.{environment};
-ghost use Rattle.gb_operators.specs.Rules.{annotated_asked, argument_asked, asked, branches_asked, drawn_asked, entry_asked, factors, mass_asked, member_asked, of_type, outcome_of, parts_wanted, product_asked, quotient_asked, sides_asked, sum_asked, tuple_asked, values};
+ghost use Rattle.gb_operators.specs.declared.domain.Domain.TheVariants.{Exactly};
+ghost use Rattle.gb_operators.specs.declared.rules.Asked.TheVariants.{Form, Function};
+ghost use Rattle.gb_operators.specs.Drawn.{value_wanted};
+ghost use Rattle.gb_operators.specs.Operators.{operand_wanted};
+ghost use Rattle.gb_operators.specs.Rules.{annotated_asked, argument_asked, asked, branches_asked, drawn_asked, entry_asked, factors, mass_asked, member_asked, of_type, parts_wanted, product_asked, quotient_asked, sides_asked, sum_asked, tuple_asked, values};
 
 use crate::domain::Domain;
 use crate::drawn::{Drawn, source_wanted, value_wanted};
 use crate::kinds::{components, element, entries, is_of_values, outcome};
-use crate::operators::{Infix, first_wanted, operand_wanted, owned, shaped, takes, wanted_type};
+use crate::operators::{
+    Infix, Prefix, first_wanted, fraction, operand_wanted, owned, shaped, takes, wanted_type,
+};
 use crate::rules::{Asked, Rule};
 use gb_core::Shared;
 use gb_core::place::Place;
@@ -18,7 +26,7 @@ use gb_names::allowed::{distribution_here, stands, truth};
 use gb_names::refusals::{argument, mismatch};
 use gb_names::setting::Setting;
 use gb_terms::term::Term;
-use std::alloc::Global;
+use std::alloc::{AllocError, Global};
 
 /// The most parts of a tuple.
 const PARTS: usize = 8;
@@ -81,6 +89,19 @@ fn tuple_asked(
     Ok(Asked::Form(wanted_type(alloc, wanted.get(typed.len()))?))
 }
 
+/// What is asked of an operand.
+fn operand_asked(
+    alloc: Global,
+    prefix: Prefix,
+    at: &Setting<'_>,
+    want: Option<&Ty>,
+    place: Place,
+) -> Result<Asked, Refused>
+    ensures { Answers (operand_wanted prefix (environment at.now) (option_copied want.entry) place and_then λ v. given (Form v)) result }
+{
+    Ok(Asked::Form(operand_wanted(alloc, prefix, at, want, place)?))
+}
+
 /// What is asked of a side of an operator.
 fn sides_asked(
     alloc: Global,
@@ -115,7 +136,7 @@ fn quotient_asked(
 ) -> Result<Asked, Refused>
     ensures { Answers (quotient_asked (environment at.now) (option_copied want.entry) place) result }
 {
-    stands(at, want, place, &Ty::Real)?;
+    fraction(at, want, place)?;
     of_new_type(alloc, Ty::Real)
 }
 
@@ -175,16 +196,6 @@ fn entry_asked(
     }
 }
 
-/// The type of the outcomes of a distribution.
-fn outcome_of(t: &Term, place: Place) -> Result<&Shared<Ty>, Refused>
-    ensures { Gives (λ ty. ty.now) (outcome_of t.now place) result }
-{
-    match outcome(t.ty.get()) {
-        Some(ty) => Ok(ty),
-        None => Err(mismatch(place)),
-    }
-}
-
 /// What is asked of a distribution, and of the function of its outcome.
 fn drawn_asked(
     alloc: Global,
@@ -198,12 +209,25 @@ fn drawn_asked(
 {
     match typed {
         [] => Ok(Asked::Source(source_wanted(alloc, drawn, at, want, place)?)),
-        [source, ..] => {
-            let domain = Domain::Exactly(outcome_of(source, place)?.share()?);
-            let value = value_wanted(alloc, drawn, want)?;
-            Ok(Asked::Function(domain, value))
-        }
+        [source, ..] => match outcome(source.ty.get()) {
+            Some(ty) => function_asked(alloc, drawn, ty, want).map_err(Refused::from),
+            None => Err(mismatch(place)),
+        },
     }
+}
+
+/// What is asked of the function of an outcome of this type.
+fn function_asked(
+    alloc: Global,
+    drawn: Drawn,
+    outcomes: &Shared<Ty>,
+    want: Option<&Ty>,
+) -> Result<Asked, AllocError>
+    ensures { IfOk result (λ made. made ≡ Function (Exactly outcomes.now) (value_wanted drawn (option_copied want.entry))) }
+{
+    let outcomes = outcomes.share()?;
+    let value = value_wanted(alloc, drawn, want)?;
+    Ok(Asked::Function(Domain::Exactly(outcomes), value))
 }
 
 /// What is asked of a distribution and a value.
@@ -217,10 +241,13 @@ fn mass_asked(
 {
     match typed {
         [] => {
-            stands(at, want, place, &Ty::Real)?;
+            fraction(at, want, place)?;
             Ok(Asked::Form(None))
         }
-        [source, ..] => of_type(outcome_of(source, place)?),
+        [source, ..] => match outcome(source.ty.get()) {
+            Some(ty) => of_type(ty),
+            None => Err(mismatch(place)),
+        },
     }
 }
 
@@ -276,7 +303,7 @@ fn sum_asked(
 ) -> Result<Asked, Refused>
     ensures { Answers (sum_asked below (environment at.now) (option_copied want.entry) place) result }
 {
-    stands(at, want, place, &Ty::Real)?;
+    fraction(at, want, place)?;
     let value = Shared::new(alloc, Ty::Real)?;
     Ok(Asked::Function(Domain::Below(below), Some(value)))
 }
@@ -319,7 +346,7 @@ pub fn asked(
         Rule::If => branches_asked(alloc, want, typed),
         Rule::Get => entry_asked(alloc, None, place, typed),
         Rule::Set => entry_asked(alloc, want, place, typed),
-        Rule::One(prefix) => Ok(Asked::Form(operand_wanted(alloc, *prefix, at, want, place)?)),
+        Rule::One(prefix) => operand_asked(alloc, *prefix, at, want, place),
         Rule::Two(operator) => sides_asked(alloc, *operator, want, place, typed),
         Rule::Quotient(_, _) => quotient_asked(alloc, at, want, place),
         Rule::Member(backwards) => member_asked(*backwards, want, place, typed),

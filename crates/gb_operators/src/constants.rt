@@ -8,6 +8,7 @@ ghost use Rattle.gb_terms.specs.Make.{applied, truth_literal};
 ghost use Rattle.gb_operators.specs.Constants.{constant, literal};
 
 use crate::kinds::{entries, inside_option};
+use crate::made::leaf;
 use crate::operators::owned;
 use gb_core::place::Place;
 use gb_core::refusal::Refused;
@@ -63,7 +64,7 @@ fn open_constant(alloc: Global, op: Op, ty: &Ty) -> Result<Term, Refused>
     ensures { Answers (given (applied op [] ty.now)) result }
 {
     let ty = owned(alloc, ty)?;
-    make::leaf(alloc, Head::Builtin(op), ty).map_err(Refused::from)
+    leaf(alloc, Head::Builtin(op), ty)
 }
 
 /// A constant of an enumeration.
@@ -72,5 +73,5 @@ pub fn literal(alloc: Global, constant: &Constant) -> Result<Term, Refused>
 {
     let ty = constant.ty.share()?;
     let value = Value::Num(constant.number);
-    make::leaf(alloc, Head::Lit(value), ty).map_err(Refused::from)
+    leaf(alloc, Head::Lit(value), ty)
 }

@@ -1,15 +1,21 @@
 // Forms that bind an outcome of a distribution.
 
-ghost use Rattle.std.specs.Prelude.{◌≡◌, IfOk};
+ghost use Rattle.std.specs.Prelude.{◌≡◌, [], if◌then◌else◌, IfOk};
 ghost use Rattle.std.specs.Option.{option_copied};
-ghost use Rattle.gb_goal.specs.Answers.{Answers};
-ghost use Rattle.gb_goal.specs.Answers.Answer.{given};
+ghost use Rattle.gb_core.specs.declared.refusal.Why.TheVariants.{TypeTooLarge};
+ghost use Rattle.gb_core.specs.declared.ty.Ty.TheVariants.{Distr};
+ghost use Rattle.gb_goal.specs.Answers.{Answers, ◌>>=◌ as ◌and_then◌};
+ghost use Rattle.gb_goal.specs.Answers.Answer.{given, refused};
+ghost use Rattle.gb_terms.specs.declared.term.Head.TheVariants.{Builtin};
 ghost use Rattle.gb_terms.specs.Make.{node};
+ghost use Rattle.gb_names.specs.Allowed.{stands};
 ghost use Rattle.gb_names.specs.Environment.{environment};
+ghost use Rattle.gb_operators.specs.Kinds.{is_small};
 ghost use Rattle.gb_operators.specs.Drawn.{drawn_head, drawn_result, outcome_wanted, source_wanted, uniform, value_wanted};
 
 use crate::kinds::{is_of_values, is_small, outcome};
-use crate::operators::{outcome_wanted, wanted_type};
+use crate::made::leaf;
+use crate::operators::{fraction, outcome_wanted, wanted_type};
 use gb_core::Shared;
 use gb_core::place::Place;
 use gb_core::refusal::{Refused, Why};
@@ -19,7 +25,6 @@ use gb_names::refusals::not_built;
 use gb_names::setting::Setting;
 use gb_names::types::type_of;
 use gb_script::tree::Node;
-use gb_terms::make;
 use gb_terms::op::Op;
 use gb_terms::term::{Head, Term};
 use std::alloc::{AllocError, Global};
@@ -47,7 +52,7 @@ pub fn source_wanted(
 {
     match drawn {
         Drawn::Measure => {
-            stands(at, want, place, &Ty::Real)?;
+            fraction(at, want, place)?;
             Ok(None)
         }
         Drawn::Image => {
@@ -144,16 +149,29 @@ pub fn uniform(
             distribution_here(at, place)?;
             outcome_wanted(want, place)?;
             let outcomes = type_of(alloc, at.scope, written)?;
-            let small = is_small(outcomes.get());
-            let ty = Shared::new(alloc, Ty::Distr(outcomes))?;
-            stands(at, want, place, ty.get())?;
-            if small {
-                make::leaf(alloc, Head::Builtin(Op::Uniform), ty).map_err(Refused::from)
-            } else {
-                Err(too_large(place))
-            }
+            uniform_over(alloc, at, outcomes, want, place)
         }
         _ => Err(not_built(place)),
+    }
+}
+
+/// .. of this type.
+fn uniform_over(
+    alloc: Global,
+    at: &Setting<'_>,
+    outcomes: Shared<Ty>,
+    want: Option<&Ty>,
+    place: Place,
+) -> Result<Term, Refused>
+    ensures { Answers (stands (environment at.now) (option_copied want.entry) place (Distr outcomes) and_then λ _. if is_small outcomes then given (node (Builtin Op.Uniform) [] (Distr outcomes)) else refused TypeTooLarge place) result }
+{
+    let small = is_small(outcomes.get());
+    let ty = Shared::new(alloc, Ty::Distr(outcomes))?;
+    stands(at, want, place, ty.get())?;
+    if small {
+        leaf(alloc, Head::Builtin(Op::Uniform), ty)
+    } else {
+        Err(too_large(place))
     }
 }
 

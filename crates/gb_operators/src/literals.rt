@@ -10,6 +10,7 @@ ghost use Rattle.gb_goal.specs.Answers.Answer.{given};
 ghost use Rattle.gb_names.specs.Environment.{environment};
 ghost use Rattle.gb_operators.specs.Literals.{as_whole, bound_of, dividing, divisor_in, holds, is_divisor, number_in, numbering, numeral, part_number, place_inside, placing, with_divisors, with_numbers, with_places};
 
+use crate::made::leaf;
 use crate::operators::owned;
 use gb_core::Shared;
 use gb_core::name::Name;
@@ -23,7 +24,6 @@ use gb_names::refusals::{argument, not_built};
 use gb_names::setting::Setting;
 use gb_script::head::Head as NodeHead;
 use gb_script::tree::Node;
-use gb_terms::make;
 use gb_terms::term::{Head, Term};
 use gb_types::size::power;
 use std::alloc::Global;
@@ -56,9 +56,9 @@ fn as_whole(
     requires { n < 2 ^ 127 }
     ensures { Answers (as_whole (environment at.now) n (option_copied want.entry) place) result }
 {
-    stands(at, want, place, &Ty::Int)?;
     let ty = Shared::new(alloc, Ty::Int)?;
-    make::leaf(alloc, Head::Whole(n as i128), ty).map_err(Refused::from)
+    stands(at, want, place, ty.get())?;
+    leaf(alloc, Head::Whole(n as i128), ty)
 }
 
 /// A number of a type that holds it.
@@ -66,7 +66,7 @@ fn as_value(alloc: Global, n: u64, ty: &Ty) -> Result<Term, Refused>
     ensures { Answers (given (node (Lit (Num n)) [] ty.now)) result }
 {
     let ty = owned(alloc, ty)?;
-    make::leaf(alloc, Head::Lit(Value::Num(n)), ty).map_err(Refused::from)
+    leaf(alloc, Head::Lit(Value::Num(n)), ty)
 }
 
 /// A numeral: a number of a wanted type that holds it, else a whole number.

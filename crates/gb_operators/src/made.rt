@@ -37,6 +37,13 @@ fn headed(alloc: Global, head: Head, args: Terms, ty: Shared<Ty>) -> Result<Term
     make::term(alloc, head, args, ty).map_err(Refused::from)
 }
 
+/// The term of this head and this type that has no arguments.
+pub fn leaf(alloc: Global, head: Head, ty: Shared<Ty>) -> Result<Term, Refused>
+    ensures { Answers (given (node head [] ty)) result }
+{
+    make::leaf(alloc, head, ty).map_err(Refused::from)
+}
+
 /// An operator at its arguments.
 fn applied(alloc: Global, op: Op, args: Terms, ty: Shared<Ty>) -> Result<Term, Refused>
     ensures { Answers (given (applied op args ty)) result }

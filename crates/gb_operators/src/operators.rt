@@ -4,6 +4,7 @@ ghost use Rattle.std.specs.Prelude.{◌≡◌, IfOk};
 ghost use Rattle.std.specs.Option.{option_copied};
 ghost use Rattle.gb_goal.specs.Answers.{Answers};
 ghost use Rattle.gb_goal.specs.Answers.Answer.{given};
+ghost use Rattle.gb_names.specs.Allowed.{stands};
 ghost use Rattle.gb_names.specs.Environment.{environment};
 ghost use Rattle.gb_operators.specs.Kinds.{inside_option, outcome};
 ghost use Rattle.gb_operators.specs.Operators.{comparison, exchanged, first_wanted, joining, operand_wanted, operator_of, option_wanted, part_wanted, prefix_operator, prefix_result, result_type, shaped, takes};
@@ -95,23 +96,15 @@ fn exchanged(op: Op, operands: Operands) -> Option<Operator>
 fn comparison(text: &Name) -> Option<Operator>
     ensures { result ≡ comparison text.now }
 {
-    let text = text.as_str();
-    if text == "=" {
-        joining(Op::Equal, Operands::Alike)
-    } else if text == "<>" {
-        joining(Op::NotEqual, Operands::Alike)
-    } else if text == "<" {
-        joining(Op::Less, Operands::Ordered)
-    } else if text == "<=" {
-        joining(Op::AtMost, Operands::Ordered)
-    } else if text == ">" {
-        exchanged(Op::Less, Operands::Ordered)
-    } else if text == ">=" {
-        exchanged(Op::AtMost, Operands::Ordered)
-    } else if text == "\\in" {
-        Some(Operator::Member)
-    } else {
-        None
+    match text.as_str() {
+        "=" => joining(Op::Equal, Operands::Alike),
+        "<>" => joining(Op::NotEqual, Operands::Alike),
+        "<" => joining(Op::Less, Operands::Ordered),
+        "<=" => joining(Op::AtMost, Operands::Ordered),
+        ">" => exchanged(Op::Less, Operands::Ordered),
+        ">=" => exchanged(Op::AtMost, Operands::Ordered),
+        "\\in" => Some(Operator::Member),
+        _ => None,
     }
 }
 
@@ -191,6 +184,13 @@ pub fn result_type(
     }
 }
 
+/// Refuses a fraction where none may stand, and one where another type is wanted.
+pub fn fraction(at: &Setting<'_>, want: Option<&Ty>, place: Place) -> Result<(), Refused>
+    ensures { Answers (stands (environment at.now) (option_copied want.entry) place Ty.Real) result }
+{
+    stands(at, want, place, &Ty::Real)
+}
+
 /// What is wanted of the inside of an option.
 fn some_wanted(want: Option<&Ty>, place: Place) -> Result<Option<Shared<Ty>>, Refused>
     ensures { Answers (part_wanted inside_option (option_copied want.entry) place) result }
@@ -258,11 +258,11 @@ pub fn operand_wanted(
             }
         }
         Prefix::ToReal => {
-            stands(at, want, place, &Ty::Real)?;
+            fraction(at, want, place)?;
             Ok(None)
         }
         Prefix::Absolute => {
-            stands(at, want, place, &Ty::Real)?;
+            fraction(at, want, place)?;
             wanted_type(alloc, Some(&Ty::Real))
         }
         Prefix::Some => some_wanted(want, place),

@@ -12,7 +12,7 @@ use Rattle.gb_terms.specs.declared.module.ProcRef.{ProcRef}
 use Rattle.gb_terms.specs.declared.term.Head.TheVariants as head
 use Rattle.gb_terms.specs.declared.term.Head.TheVariants.{Assign, Sample, Call, If, While, Proc, Body}
 use Rattle.gb_terms.specs.declared.term.Head.TheOpen as layer
-use Rattle.gb_terms.specs.declared.term.Head.TheViews.{out-Term, roll-out-Term, out-Cmd, roll-out-Cmd}
+use Rattle.gb_terms.specs.declared.term.Head.TheViews.{out-Term, roll-out-Term, out-Cmd, roll-out-Cmd, out-roll-Instr}
 use Rattle.gb_terms.specs.declared.term.Head.TheFolds.{para-Head, para-roll-Term, para-roll-Head, para-roll-Subject, para-roll-Instr, para-roll-Cmd}
 use Rattle.gb_print_names.specs.Text.{Text, ◌▸◌, each, word}
 use Rattle.gb_print_names.specs.BoundNames.{Place}
@@ -21,7 +21,7 @@ use Rattle.gb_print_names.specs.Modules.{procedure}
 use Rattle.gb_print_names.specs.Open.{right_first, tells}
 use Rattle.gb_print.specs.Layout.{opening, closing}
 use Rattle.gb_print_names.specs.Occurring.{inside}
-use Rattle.gb_print.specs.FormText.{Placed, Shown, trees, arguments, argument, is_nil, written, form, operand, targets, test, call, forms, further, otherwise, at_term, at_head, at_subject, at_instr, at_cmd, term_text, spoken, subject_text, instr_text, cmd_text, shown, all_shown, inside_text}
+use Rattle.gb_print.specs.FormText.{Placed, Shown, trees, arguments, argument, is_nil, written, form, operand, targets, test, call, forms, further, otherwise, instr_opening_layer, instr_opening, at_term, at_head, at_subject, at_instr, at_cmd, term_text, spoken, subject_text, instr_text, cmd_text, shown, all_shown, inside_text}
 
 pub trees_shown : (ts : List Term) → trees (all_shown ts) ≡ ts
 trees_shown [] = refl
@@ -94,6 +94,19 @@ instr_If e a b at before = ap (λ f. f at before) (para-roll-Instr Placed Placed
 pub instr_While : (e v : Term) (a : Cmd) (at : Place) (before : Text) → instr_text (While e v a) at before ≡ (test (codes "while (") (shown e) at ▸ word (codes ") variant ") ▸ operand (shown v) false at ▸ word (codes " ") ▸ cmd_text a at) before
 unfolding Rattle.gb_terms.specs.declared.term.Head.TheViews.roll-Instr denote.Hole.Carrier.roll term_text subject_text instr_text cmd_text
 instr_While e v a at before = ap (λ f. f at before) (para-roll-Instr Placed Placed Placed Placed Shown at_head at_instr at_subject at_cmd at_term (layer.While e v a))
+
+pub opening_Assign : (xs : List Var) (e : Term) (bound : List Known) (before : Text) → instr_opening (Assign xs e) bound before ≡ targets (codes " <- ") xs bound before
+unfolding Rattle.gb_terms.specs.declared.term.Head.TheViews.roll-Instr denote.Hole.Carrier.roll
+opening_Assign xs e bound before = ap (λ l. instr_opening_layer l bound before) (out-roll-Instr (layer.Assign xs e))
+
+pub opening_Sample : (x : Var) (d : Term) (bound : List Known) (before : Text) → instr_opening (Sample x d) bound before ≡ (variable bound x ▸ word (codes " <$ ")) before
+unfolding Rattle.gb_terms.specs.declared.term.Head.TheViews.roll-Instr denote.Hole.Carrier.roll
+opening_Sample x d bound before = ap (λ l. instr_opening_layer l bound before) (out-roll-Instr (layer.Sample x d))
+
+pub opening_Call : (xs : List Var) (p : ProcRef) (ts : List Term) (bound : List Known) (before : Text)
+    → instr_opening (Call xs p ts) bound before ≡ (targets (codes " <@ ") xs bound ▸ procedure bound p ▸ word (codes "(")) before
+unfolding Rattle.gb_terms.specs.declared.term.Head.TheViews.roll-Instr denote.Hole.Carrier.roll
+opening_Call xs p ts bound before = ap (λ l. instr_opening_layer l bound before) (out-roll-Instr (layer.Call xs p ts))
 
 each_pair : (is : List Instr) (at : Place) (before : Text)
     → each (λ (i : Instr × Placed). word (codes " ") ▸ i.1 at) (map (λ i. (i, instr_text i)) is) before ≡ each (λ i. word (codes " ") ▸ instr_text i at) is before

@@ -3,7 +3,7 @@ use Rattle.std.specs.Prelude.{ℕ, zero, suc, ◌≡◌, ◌^◌, ◌<◌, Bool,
 use Rattle.std.specs.List.{list_all}
 use Rattle.std.specs.Str.{bytes_eq}
 use Rattle.std.proofs.Common.{refl, ap, ap₂, sym, ◌∙◌, subst, arith, append_assoc}
-use Rattle.std.proofs.lemmas.Bool.{ltb-true, eqb-true}
+use Rattle.std.proofs.lemmas.Bool.{false≢true, ltb-true, eqb-true}
 use Rattle.gb_script.specs.declared.table.Symbol.{Symbol}
 use Rattle.gb_script.specs.declared.table.Symbol.TheVariants.{Token, Part}
 use Rattle.gb_script.specs.Grammar.{Grammar, Production, IsProduction}
@@ -227,7 +227,7 @@ number_kind terminal.Number h = refl
 number_kind terminal.Zero h = refl
 number_kind terminal.One h = refl
 number_kind terminal.Two h = refl
-number_kind _ h = absurd cc
+number_kind _ h = absurd (false≢true h)
 
 in_range_by : (b : Bool) (k : ℕ) (n : List ℕ) → (b ≡ true → is_number_kind k ≡ true) → implies (is_number_kind k) (nat_lt (number_of n) (2 ^ 127)) ≡ true → number_of (if b then n else []) < 2 ^ 127
 in_range_by true k n h f = ltb-true (number_of n) (2 ^ 127) (sym (ap (λ (c : Bool). implies c (nat_lt (number_of n) (2 ^ 127))) (h refl)) ∙ f)

@@ -1,7 +1,7 @@
 -- What is known of levels in front of productions and behind them; productions without chains of their own.
 use Rattle.std.specs.Prelude.{ℕ, ◌≡◌, ◌≤◌, Bool, true, false, not, ◌&&◌, if◌then◌else◌, nat_le, nat_lt, List, [], ◌∷◌, ◌++◌, Option, Some, None}
 use Rattle.std.proofs.Common.{refl, ap, sym, ◌∙◌, subst, arith}
-use Rattle.std.proofs.lemmas.Bool.{leb-true}
+use Rattle.std.proofs.lemmas.Bool.{false≢true, leb-true}
 use Rattle.std.proofs.lemmas.Bool.Decides.{nat_tests}
 use Rattle.gb_script.specs.declared.table.Symbol.{Symbol}
 use Rattle.gb_script.specs.declared.table.Symbol.TheVariants.{Token, Part}
@@ -220,11 +220,11 @@ is_calm r = is_plain_mark r.rule.mark && row_calm (class_of r.part) r.body
 pub plain_begun : (m : Mark) (b : Terminal) (ls : List Level) → is_plain_mark m ≡ true → begun_by m b ls ≡ ls
 plain_begun mark.Plain b [] h = refl
 plain_begun mark.Plain b (l ∷ ls) h = refl
-plain_begun _ b ls h = absurd cc
+plain_begun _ b ls h = absurd (false≢true h)
 
 pub plain_nested : (m : Mark) (ls : List Level) → is_plain_mark m ≡ true → nested m ls ≡ ls
 plain_nested mark.Plain ls h = refl
-plain_nested _ ls h = absurd cc
+plain_nested _ ls h = absurd (false≢true h)
 
 none_left : (o : Option (List Known)) → ends_empty o ≡ true → o ≡ Some []
 none_left None h = absurd cc

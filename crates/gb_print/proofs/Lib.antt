@@ -1,4 +1,5 @@
 pub mod Values
+pub mod EachMore
 pub mod FormSteps
 pub mod Steps
 pub mod Reading

@@ -4,6 +4,7 @@ use Rattle.std.specs.List.{slice_get, list_all}
 use Rattle.std.specs.Char.{is_ascii_digit}
 use Rattle.std.specs.Fmt.{decimal}
 use Rattle.std.proofs.Common.{refl, ap, ap₂, sym, ◌∙◌, subst}
+use Rattle.std.proofs.lemmas.Bool.{false≢true}
 use Rattle.gb_core.specs.declared.ty.Ty.{Ty, out-Ty}
 use Rattle.gb_core.specs.declared.ty.Ty.TheOpen as ty_layer
 use Rattle.gb_core.specs.declared.value.Value.{Value, out-Value, roll-Value, roll-out-Value, fold-Value}
@@ -145,7 +146,7 @@ unfolding spells is_word_of
 numeral_worded es ty_layer.Unit n h = record { name = codes "tt"; is_name = refl; written = refl; node_is = refl }
 numeral_worded es ty_layer.Bool n h = truth_worded (n == 0)
 numeral_worded es (ty_layer.Enumeration x size) n h = constant_worded (slice_get (print.constants es x) n) h
-numeral_worded es _ n h = absurd cc
+numeral_worded es _ n h = absurd (false≢true h)
 
 value_worded : (es : List Enumeration) (t : Ty) (v : Value) (l : value_layer.Value-F Value) → has_word es t l ≡ true → Worded (print_layout.literal_layer es t v l) (tree.literal_layer es t v l)
 value_worded es t v (value_layer.Num n) h = numeral_worded es (out-Ty t) n h

@@ -6,7 +6,7 @@ use Rattle.std.specs.Char.{is_ascii_digit}
 use Rattle.std.specs.Str.{bytes_eq}
 use Rattle.std.specs.Fmt.{decimal}
 use Rattle.std.proofs.Common.{refl, ap, ap₂, sym, ◌∙◌, subst, arith, append_assoc}
-use Rattle.std.proofs.lemmas.Bool.{eqb-true, ltb-true}
+use Rattle.std.proofs.lemmas.Bool.{false≢true, eqb-true, ltb-true}
 use Rattle.std.proofs.lemmas.Slice.Eq.{bytes_eq-Decides}
 use Rattle.std.proofs.lemmas.Bool.Decides.{nat_tests}
 use Rattle.std.proofs.lemmas.Fmt.{decimal_by_steps_wide}
@@ -96,7 +96,7 @@ name_row stage terminal.LawOfLeast h = (p.name_law.starts, p.is_name_law stage, 
 name_row stage terminal.LawOfMost h = (p.name_law.starts, p.is_name_law stage, refl)
 name_row stage terminal.SplitLaw h = (p.name_split_law.starts, p.is_name_split_law stage, refl)
 name_row stage terminal.Eager h = (p.name_eager.starts, p.is_name_eager stage, refl)
-name_row stage _ h = absurd cc
+name_row stage _ h = absurd (false≢true h)
 
 -- what a name is
 pub name_facts : (x : List ℕ) → is_name_text x ≡ true → (is_word x ≡ true) × (is_name (terminal_of Word x) ≡ true) × (not (is_word_of LEFT_OUT x) ≡ true)
@@ -156,7 +156,7 @@ number_row stage terminal.Number h = (p.number_number.starts, p.is_number_number
 number_row stage terminal.Zero h = (p.number_zero.starts, p.is_number_zero stage, refl)
 number_row stage terminal.One h = (p.number_one.starts, p.is_number_one stage, refl)
 number_row stage terminal.Two h = (p.number_two.starts, p.is_number_two stage, refl)
-number_row stage _ h = absurd cc
+number_row stage _ h = absurd (false≢true h)
 
 -- Spellings that begin with a digit are of numbers.
 abbrev first_byte : List ℕ → ℕ

@@ -2,6 +2,7 @@
 use Rattle.std.specs.Prelude.{ℕ, ◌≡◌, Bool, true, false, nat_le, List, [], ◌∷◌, ◌++◌, map, codes}
 use Rattle.std.specs.List.{list_all}
 use Rattle.std.proofs.Common.{refl, ap, sym, ◌∙◌, subst, append_assoc}
+use Rattle.std.proofs.lemmas.Bool.{false≢true}
 use Rattle.gb_goal.specs.Answers.{nowhere}
 use Rattle.gb_script.specs.declared.table.Symbol.TheVariants.{Part}
 use Rattle.gb_script.specs.Grammar.{has}
@@ -113,7 +114,7 @@ name_may terminal.LawOfLeast h = (refl, refl)
 name_may terminal.LawOfMost h = (refl, refl)
 name_may terminal.SplitLaw h = (refl, refl)
 name_may terminal.Eager h = (refl, refl)
-name_may _ h = absurd cc
+name_may _ h = absurd (false≢true h)
 
 -- a name is no `else`
 pub name_first : (x mid : Text) → is_name_text x ≡ true → ahead is_word_byte mid ≡ false → NoElse (x ++ mid)

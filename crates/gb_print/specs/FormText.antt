@@ -8,7 +8,7 @@ use Rattle.gb_terms.specs.declared.term.Head.TheVariants as head
 use Rattle.gb_terms.specs.declared.term.Head.TheOpen as layer
 use Rattle.gb_terms.specs.declared.term.Head.TheFolds.{para-Term, para-Subject, para-Cmd, para-Instr}
 use Rattle.gb_terms.specs.declared.term.Subject.{Subject}
-use Rattle.gb_terms.specs.declared.term.Instr.{Instr}
+use Rattle.gb_terms.specs.declared.term.Instr.{Instr, out-Instr}
 use Rattle.gb_terms.specs.declared.term.Cmd.{Cmd, out-Cmd}
 use Rattle.gb_walk.specs.Layers.{is_binder}
 use Rattle.gb_print_names.specs.Text.{Text, Writing, ◌▸◌, nothing, each, word, separated}
@@ -133,6 +133,17 @@ where_any (i ∷ is) w = w
 -- the branch behind `else`, where it has a statement
 abbrev pub otherwise : Cmd × Placed → Placed
 otherwise c at = where_any (out-Cmd c.0).list (word (codes " else ") ▸ c.1 at)
+
+abbrev pub instr_opening_layer : layer.Instr-F Head Instr Subject Cmd Term → List Known → Writing
+instr_opening_layer (layer.Assign xs e) bound = targets (codes " <- ") xs bound
+instr_opening_layer (layer.Sample x d) bound = variable bound x ▸ word (codes " <$ ")
+instr_opening_layer (layer.Call xs p ts) bound = targets (codes " <@ ") xs bound ▸ procedure bound p ▸ word (codes "(")
+instr_opening_layer (layer.If e a b) bound = word (codes "if (")
+instr_opening_layer (layer.While e v a) bound = word (codes "while (")
+
+-- a statement begins with this; its forms and its bodies follow
+abbrev pub instr_opening : Instr → List Known → Writing
+instr_opening i bound = instr_opening_layer (out-Instr i) bound
 
 abbrev pub at_instr : layer.Instr-F (Head × Placed) (Instr × Placed) (Subject × Placed) (Cmd × Placed) Part → Placed
 at_instr (layer.Assign xs e) at = targets (codes " <- ") xs at.bound ▸ form e true at ▸ word (codes ";")

@@ -91,6 +91,22 @@ operator_type _ t at = nothing
 abbrev pub weighted : List Enumeration → Ty → Pair → Writing
 weighted es t p = literal es t p.value ▸ word (codes " : ") ▸ number p.weight
 
+-- the word with which a form begins, where it begins with one
+abbrev pub opening_word : Head → Text
+opening_word (head.Builtin o) = (spelling o).opening
+opening_word (head.User x) = x
+opening_word head.Mu = codes "mu"
+opening_word (head.Sum q) = codes "sum "
+opening_word (head.Weights ps) = codes "weights ["
+opening_word head.Map = codes "dmap"
+opening_word head.Restrict = codes "drestrict"
+opening_word (head.Pr p s) = codes "Pr["
+opening_word (head.Glob m s) = codes "(glob "
+opening_word (head.Hoare c) = codes "hoare ["
+opening_word (head.Phoare c r) = codes "phoare ["
+opening_word (head.Equiv c d) = codes "equiv ["
+opening_word _ = []
+
 -- A form begins with this; the programs of a judgment follow.
 abbrev pub opening : Head → Ty → Place → Writing
 opening (head.Lit v) t at = literal at.enumerations t v

@@ -1,7 +1,9 @@
 // What heads bind.
 
-ghost use Rattle.std.specs.Prelude.{◌≡◌, OnOk, IfOk};
+ghost use Rattle.std.specs.Prelude.{◌≡◌, codes, OnOk, IfOk};
 ghost use Rattle.std.specs.Option.{option_copied};
+ghost use Rattle.gb_print_names.specs.Text.{◌▸◌, word};
+ghost use Rattle.gb_print_names.specs.Types.{type_text};
 ghost use Rattle.gb_print.specs.Layout.{letter, stands, over_values, over_memories, over_modules, type_needed, of_function, binding};
 
 use gb_core::Stack;
@@ -37,6 +39,21 @@ pub fn stands(alloc: Global, head: &Head) -> Result<Name, AllocError>
     }
 }
 
+/// A name and its type.
+pub fn put_typed(
+    alloc: Global,
+    text: &mut Text,
+    bound: &Stack<Known>,
+    name: &Name,
+    t: &Ty,
+) -> Result<(), AllocError>
+    ensures { OnOk result (text.new ≡ (word name.now ▸ word (codes " : ") ▸ type_text t.now bound.now) text.old) }
+{
+    text.put(name.as_str())?;
+    text.put(" : ")?;
+    put_type(alloc, text, bound, t)
+}
+
 /// A quantifier over the values of a type.
 fn put_over_values(
     alloc: Global,
@@ -50,9 +67,7 @@ fn put_over_values(
 {
     text.put(quantifier)?;
     text.put(" (")?;
-    text.put(name.as_str())?;
-    text.put(" : ")?;
-    put_type(alloc, text, bound, t)?;
+    put_typed(alloc, text, bound, name, t)?;
     text.put("), ")
 }
 
@@ -105,9 +120,7 @@ fn put_of_function(
         return text.put(" => ");
     };
     text.put(" (fun (")?;
-    text.put(name.as_str())?;
-    text.put(" : ")?;
-    put_type(alloc, text, bound, t)?;
+    put_typed(alloc, text, bound, name, t)?;
     text.put(") => ")
 }
 

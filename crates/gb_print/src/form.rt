@@ -1,11 +1,12 @@
 // Forms and programs.
 
-ghost use Rattle.std.specs.Prelude.{◌≡◌, ◌∷◌, codes, OnOk};
+ghost use Rattle.std.specs.Prelude.{◌≡◌, ◌∷◌, true, codes, OnOk};
 ghost use Rattle.gb_print_names.specs.BoundNames.{place};
 ghost use Rattle.gb_print_names.specs.Names.{variable};
 ghost use Rattle.gb_print_names.specs.Open.{right_first};
-ghost use Rattle.gb_print_names.specs.Text.{separated};
-ghost use Rattle.gb_print.specs.FormText.{in_brackets, annotated, form, operand, part, bound_part, argument, arguments, inside_text, spoken, is_nil, targets, test, call, forms, otherwise, term_text, subject_text, cmd_text, instr_text, shown, all_shown};
+ghost use Rattle.gb_print_names.specs.Modules.{procedure};
+ghost use Rattle.gb_print_names.specs.Text.{◌▸◌, word, separated};
+ghost use Rattle.gb_print.specs.FormText.{in_brackets, annotated, form, operand, part, bound_part, argument, arguments, inside_text, spoken, is_nil, targets, forms, instr_opening, otherwise, term_text, subject_text, cmd_text, instr_text, shown, all_shown};
 
 use crate::binders::{letter, put_binding, stands};
 use crate::layout::{put_before, put_closing, put_opening};
@@ -275,16 +276,20 @@ fn put_body(alloc: Global, page: &mut Page, at: &Setting<'_>, c: &Cmd) -> Result
     page.text.put(" }")
 }
 
+fn put_target(page: &mut Page, arrow: &str, x: &Var) -> Result<(), AllocError>
+    ensures { OnOk result (page.new ≡ record page.old { text = (variable page.old.bound x.now ▸ word arrow.now) page.old.text }) }
+{
+    put_variable(&mut page.text, &page.bound, x)?;
+    page.text.put(arrow)
+}
+
 /// What a statement writes, with the arrow behind it.
 fn put_targets(page: &mut Page, arrow: &str, list: &[Var]) -> Result<(), AllocError>
     ensures { OnOk result (page.new ≡ record page.old { text = targets arrow.now list.now page.old.bound page.old.text }) }
 {
     match list {
         [] => Ok(()),
-        [x] => {
-            put_variable(&mut page.text, &page.bound, x)?;
-            page.text.put(arrow)
-        }
+        [x] => put_target(page, arrow, x),
         [first, rest @ ..] => {
             page.text.put("(")?;
             put_variables(page, first, rest)?;
@@ -305,36 +310,44 @@ fn put_variables(page: &mut Page, first: &Var, rest: &[Var]) -> Result<(), Alloc
     Ok(())
 }
 
+fn put_called(page: &mut Page, list: &[Var], p: &ProcRef) -> Result<(), AllocError>
+    ensures { OnOk result (page.new ≡ record page.old { text = (targets (codes " <@ ") list.now page.old.bound ▸ procedure page.old.bound p.now ▸ word (codes "(")) page.old.text }) }
+{
+    put_targets(page, " <@ ", list)?;
+    put_procedure(&mut page.text, &page.bound, p)?;
+    page.text.put("(")
+}
+
+/// A statement begins with this; its forms and its bodies follow.
+fn put_instr_opening(page: &mut Page, i: &Instr) -> Result<(), AllocError>
+    ensures { OnOk result (page.new ≡ record page.old { text = instr_opening i.now page.old.bound page.old.text }) }
+{
+    match i {
+        Instr::Assign(list, _) => put_targets(page, " <- ", list.as_slice()),
+        Instr::Sample(x, _) => put_target(page, " <$ ", x),
+        Instr::Call(list, p, _) => put_called(page, list.as_slice(), p.get()),
+        Instr::If(..) => page.text.put("if ("),
+        Instr::While(..) => page.text.put("while ("),
+    }
+}
+
 /// A statement.
 #[cycle(forms)]
 fn put_instr(alloc: Global, page: &mut Page, at: &Setting<'_>, i: &Instr) -> Result<(), AllocError>
     ensures { OnOk result (page.new ≡ record page.old { text = instr_text i.now (place at.now page.old.bound) page.old.text }) }
 {
+    put_instr_opening(page, i)?;
     match i {
-        Instr::Assign(list, e) => {
-            put_targets(page, " <- ", list.as_slice())?;
-            put_form(alloc, page, at, true, e)?;
-            page.text.put(";")
-        }
-        Instr::Sample(x, d) => {
-            put_variable(&mut page.text, &page.bound, x)?;
-            page.text.put(" <$ ")?;
-            put_form(alloc, page, at, true, d)?;
-            page.text.put(";")
-        }
-        Instr::Call(list, procedure, args) => {
-            put_targets(page, " <@ ", list.as_slice())?;
-            put_call(alloc, page, at, procedure.get(), args.as_slice())
-        }
+        Instr::Assign(_, e) => put_ended(alloc, page, at, e, ";"),
+        Instr::Sample(_, d) => put_ended(alloc, page, at, d, ";"),
+        Instr::Call(_, _, args) => put_given(alloc, page, at, args.as_slice()),
         Instr::If(test, yes, no) => {
-            put_test(alloc, page, at, "if (", test)?;
-            page.text.put(") ")?;
+            put_ended(alloc, page, at, test, ") ")?;
             put_body(alloc, page, at, yes)?;
             put_otherwise(alloc, page, at, no)
         }
         Instr::While(guard, variant, c) => {
-            put_test(alloc, page, at, "while (", guard)?;
-            page.text.put(") variant ")?;
+            put_ended(alloc, page, at, guard, ") variant ")?;
             put_operand(alloc, page, at, false, variant)?;
             page.text.put(" ")?;
             put_body(alloc, page, at, c)
@@ -342,55 +355,40 @@ fn put_instr(alloc: Global, page: &mut Page, at: &Setting<'_>, i: &Instr) -> Res
     }
 }
 
+/// A form, and what stands behind it.
 #[cycle(forms)]
-fn put_test(
+fn put_ended(
     alloc: Global,
     page: &mut Page,
     at: &Setting<'_>,
-    word: &str,
     t: &Term,
+    end: &str,
 ) -> Result<(), AllocError>
-    ensures { OnOk result (page.new ≡ record page.old { text = test (word.now) (shown t.now) (place at.now page.old.bound) page.old.text }) }
+    ensures { OnOk result (page.new ≡ record page.old { text = (form (shown t.now) true (place at.now page.old.bound) ▸ word end.now) page.old.text }) }
 {
-    page.text.put(word)?;
-    put_form(alloc, page, at, true, t)
+    put_form(alloc, page, at, true, t)?;
+    page.text.put(end)
 }
 
-/// A procedure at its arguments.
+/// The arguments of a call, and its end.
 #[cycle(forms)]
-fn put_call(
-    alloc: Global,
-    page: &mut Page,
-    at: &Setting<'_>,
-    procedure: &ProcRef,
-    args: &[Term],
-) -> Result<(), AllocError>
-    ensures { OnOk result (page.new ≡ record page.old { text = call procedure.now (all_shown args.now) (place at.now page.old.bound) page.old.text }) }
-{
-    put_procedure(&mut page.text, &page.bound, procedure)?;
-    page.text.put("(")?;
-    put_forms(alloc, page, at, args)?;
-    page.text.put(");")
-}
-
-#[cycle(forms)]
-fn put_forms(
+fn put_given(
     alloc: Global,
     page: &mut Page,
     at: &Setting<'_>,
     list: &[Term],
 ) -> Result<(), AllocError>
-    ensures { OnOk result (page.new ≡ record page.old { text = forms (all_shown list.now) (place at.now page.old.bound) page.old.text }) }
+    ensures { OnOk result (page.new ≡ record page.old { text = (forms (all_shown list.now) (place at.now page.old.bound) ▸ word (codes ");")) page.old.text }) }
 {
     let [first, rest @ ..] = list else {
-        return Ok(());
+        return page.text.put(");");
     };
     put_form(alloc, page, at, true, first)?;
     for t in rest {
         page.text.put(", ")?;
         put_form(alloc, page, at, true, t)?;
     }
-    Ok(())
+    page.text.put(");")
 }
 
 /// The branch behind `else`, where it has a statement.

@@ -9,6 +9,7 @@ ghost use Rattle.gb_print.specs.Goals.{IsWrittenGoal, IsGoalReadAs};
 ghost use Rattle.gb_print.specs.ReadBack.{IsReadAs};
 ghost use Rattle.gb_print.specs.Written.{IsWritten};
 
+use crate::binders::put_typed;
 use crate::form::put_form;
 use crate::laws::{printed_forms_are_read, printed_goals_are_read};
 use gb_core::Stack;
@@ -19,7 +20,6 @@ use gb_print_names::bound_names::{Enumeration, Setting};
 use gb_print_names::modules::put_abstract_module;
 use gb_print_names::occurring::note_name;
 use gb_print_names::text::{Page, Text};
-use gb_print_names::types::put_type;
 use gb_terms::decl::TypedName;
 use gb_terms::module::Bind;
 use gb_terms::term::Form;
@@ -101,9 +101,7 @@ fn put_variables(alloc: Global, page: &mut Page, list: &[TypedName]) -> Result<(
     ensures { OnOk result (page.new ≡ record page.old { text = each (variable_line page.old.bound) list.now page.old.text }) }
 {
     for x in list {
-        page.text.put(x.name.as_str())?;
-        page.text.put(" : ")?;
-        put_type(alloc, &mut page.text, &page.bound, x.ty.get())?;
+        put_typed(alloc, &mut page.text, &page.bound, &x.name, x.ty.get())?;
         page.text.put("\n")?;
     }
     Ok(())

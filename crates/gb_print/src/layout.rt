@@ -2,7 +2,7 @@
 
 ghost use Rattle.std.specs.Prelude.{◌≡◌, OnOk};
 ghost use Rattle.gb_print_names.specs.BoundNames.{place};
-ghost use Rattle.gb_print.specs.Layout.{compared, before_operand, operator_closing, operator_type, opening, before_part, before, closing};
+ghost use Rattle.gb_print.specs.Layout.{compared, before_operand, operator_closing, operator_type, opening_word, opening, before_part, before, closing};
 ghost use Rattle.gb_print_names.specs.Shapes.{spelling};
 
 use crate::literals::{outcome, put_literal, put_weights};
@@ -133,6 +133,27 @@ fn put_operator_type(
     }
 }
 
+/// The word with which a form begins, where it begins with one.
+fn opening_word(head: &Head) -> &str
+    ensures { result.now ≡ opening_word head.now }
+{
+    match head {
+        Head::Builtin(op) => operator_opening(*op),
+        Head::User(name) => name.as_str(),
+        Head::Mu => "mu",
+        Head::Sum(_) => "sum ",
+        Head::Weights(_) => "weights [",
+        Head::Map => "dmap",
+        Head::Restrict => "drestrict",
+        Head::Pr(..) => "Pr[",
+        Head::Glob(..) => "(glob ",
+        Head::Hoare(_) => "hoare [",
+        Head::Phoare(..) => "phoare [",
+        Head::Equiv(..) => "equiv [",
+        _ => "",
+    }
+}
+
 /// A form begins with this; the programs of a judgment follow.
 pub fn put_opening(
     alloc: Global,
@@ -144,42 +165,27 @@ pub fn put_opening(
 ) -> Result<(), AllocError>
     ensures { OnOk result (text.new ≡ opening head.now t.now (place at.now bound.now) text.old) }
 {
+    text.put(opening_word(head))?;
     match head {
         Head::Lit(value) => put_literal(alloc, text, at.enumerations, t, value),
         Head::Whole(n) => text.put_signed(alloc, *n),
         Head::Read(source) => put_read(text, bound, at, source),
         Head::Bound(i) => put_bound(text, bound, *i),
-        Head::Builtin(op) => {
-            text.put(operator_opening(*op))?;
-            put_operator_type(alloc, text, bound, at, *op, t)
-        }
-        Head::User(name) => text.put(name.as_str()),
-        Head::Mu => text.put("mu"),
-        Head::Sum(q) => {
-            text.put("sum ")?;
-            text.put_number(alloc, *q)
-        }
+        Head::Builtin(op) => put_operator_type(alloc, text, bound, at, *op, t),
+        Head::Sum(q) => text.put_number(alloc, *q),
         Head::Weights(pairs) => {
-            text.put("weights [")?;
             put_weights(alloc, text, at.enumerations, outcome(t), pairs.as_slice())?;
             text.put("]")
         }
-        Head::Map => text.put("dmap"),
-        Head::Restrict => text.put("drestrict"),
         Head::Pr(procedure, _) => {
-            text.put("Pr[")?;
             put_procedure(text, bound, procedure.get())?;
             text.put("(")
         }
         Head::Glob(module, side) => {
-            text.put("(glob ")?;
             put_module(text, bound, module.get())?;
             text.put(")")?;
             put_beside(text, bound, at, *side)
         }
-        Head::Hoare(_) => text.put("hoare ["),
-        Head::Phoare(..) => text.put("phoare ["),
-        Head::Equiv(..) => text.put("equiv ["),
         _ => Ok(()),
     }
 }

@@ -1,8 +1,8 @@
 -- The first line with a chain that is too long.
-use Rattle.std.specs.Prelude.{◌≡◌, ◌≢◌, ℕ, zero, suc, ◌<◌, List, [], ◌∷◌, ◌++◌, length, take, Result, Ok, Err, IfErr}
+use Rattle.std.specs.Prelude.{◌≡◌, ◌≢◌, ℕ, zero, suc, ◌<◌, List, [], ◌∷◌, ◌++◌, length, take, Result, Ok, Err, IfErr, OnOk}
 use Rattle.std.specs.List.{All}
 use Rattle.std.proofs.Common.{refl, subst, get_or, arith, inl, inr}
-use Rattle.std.proofs.lemmas.List.Elements.{All-head, All-tail}
+use Rattle.std.proofs.lemmas.List.Elements.{All-head, All-tail, All-push}
 use Rattle.gb_core.specs.declared.place.Place.{Place}
 use Rattle.gb_core.specs.declared.refusal.Refused.{Refused}
 use Rattle.gb_core.specs.declared.refusal.Refused.TheVariants.{NoMemory, ReadFault, Script}
@@ -70,3 +70,8 @@ refused_behind (Ok x) goal told short = tt
 refused_behind (Err e) goal told short =
     weaker e (IsTooMany (goal.conclusion ∷ [])) (IsTooMany (all_lines goal))
     (λ why place h. (h.0, long_behind goal.context goal.conclusion place short (alone goal.conclusion place h.1))) told
+
+-- all lines are short
+pub short_behind : {T : Type 0} (r : Result T Refused) (goal : ReadGoal) → All IsShort goal.context → OnOk r (IsShort goal.conclusion) → OnOk r (All IsShort (all_lines goal))
+short_behind (Ok x) goal context conclusion = All-push IsShort goal.context goal.conclusion context conclusion
+short_behind (Err e) goal context conclusion = tt

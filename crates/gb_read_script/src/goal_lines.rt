@@ -32,20 +32,41 @@ pub enum LineSort {
 }
 
 /// A line of a goal, and the steps that derive it.
-#[derive(Drop)]
 pub struct ReadLine {
     pub sort: LineSort,
     pub text: Text,
     pub steps: Items<Step<Rule>>,
 }
 
+impl Drop for ReadLine {
+    fn drop(self) {
+        let ReadLine {
+            sort: _,
+            text,
+            steps,
+        } = self;
+        drop(text);
+        drop(steps);
+    }
+}
+
 pub type ReadLines = Items<ReadLine>;
 
 /// The lines of a goal but `---`.
-#[derive(Drop)]
 pub struct ReadGoal {
     pub context: ReadLines,
     pub conclusion: ReadLine,
+}
+
+impl Drop for ReadGoal {
+    fn drop(self) {
+        let ReadGoal {
+            context,
+            conclusion,
+        } = self;
+        drop(context);
+        drop(conclusion);
+    }
 }
 
 /// The steps of a line, or the token at which it stops.

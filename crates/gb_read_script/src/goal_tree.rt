@@ -14,10 +14,20 @@ use sqlite_items::Items;
 use std::alloc::{AllocError, Global};
 
 /// The trees of a goal: an entry of its context is a variable, a memory or a module, or a node `Hypothesis`.
-#[derive(Drop)]
 pub struct SequentTree {
     pub context: Nodes,
     pub conclusion: Node,
+}
+
+impl Drop for SequentTree {
+    fn drop(self) {
+        let SequentTree {
+            context,
+            conclusion,
+        } = self;
+        drop(context);
+        drop(conclusion);
+    }
 }
 
 // The tree that a line is.

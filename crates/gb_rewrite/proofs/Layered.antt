@@ -1,6 +1,7 @@
 -- The first term that a law of events speaks of, layer by layer.
-use Rattle.std.proofs.Common.{◌≡◌, ◌⊎◌, inl, inr, Bool, true, false, List, [], ◌∷◌, ◌++◌, Option, Some, None, refl, ap, sym, ◌∙◌, subst}
+use Rattle.std.proofs.Common.{◌≡◌, ◌⊎◌, inl, inr, ℕ, suc, ◌+◌, ◌<◌, ◌≤◌, Bool, true, false, List, [], ◌∷◌, ◌++◌, length, get_or, take, drop, slice_set, Option, Some, None, refl, ap, sym, ◌∙◌, subst, arith}
 use Rattle.std.specs.Option.{option_map}
+use Rattle.std.proofs.lemmas.List.{take_more, drop_more, drop_all, set_split}
 use Rattle.std.proofs.lemmas.Option.{same_Some, none-some}
 use Rattle.gb_terms.specs.declared.module.ProcRef.{ProcRef}
 use Rattle.gb_terms.specs.declared.op.Side.{Side}
@@ -66,17 +67,16 @@ module _ (ds : Declarations) (l : EventLaw) where
       ap (λ o. or_else (law_at ds l h (terms_in ts)) (option_map (λ us. node h us ty) o)) (parts_are (is_quotient h) ts)
       ∙ ap (λ x. or_else (law_at ds l x.head x.args) (option_map (λ us. node x.head us x.ty) (list_by_law ds l (is_quotient x.head) x.args))) (sym (out_is h n ts ty))
 
-  -- With what is passed: some term gave way, or none yet.
-  abbrev pub passing : Bool → List Term → List Term → Option (List Term)
-  passing true made ts = Some (made ++ ts)
-  passing false made [] = None
-  passing false made (t ∷ ts) = or_else (option_map (λ u. made ++ u ∷ ts) (by_first ds l t)) (passing false (made ++ t ∷ []) ts)
+  -- behind terms that stay
+  abbrev pub passing : List Term → List Term → Option (List Term)
+  passing made [] = None
+  passing made (t ∷ ts) = or_else (option_map (λ u. made ++ u ∷ ts) (by_first ds l t)) (passing (made ++ t ∷ []) ts)
 
   one_passed : (made : List Term) (t : Term) (us : List Term) → (made ++ t ∷ []) ++ us ≡ made ++ t ∷ us
   one_passed [] t us = refl
   one_passed (a ∷ made) t us = ap (λ vs. a ∷ vs) (one_passed made t us)
 
-  passing_is : (made ts : List Term) → passing false made ts ≡ option_map (λ us. made ++ us) (any_by_law ds l ts)
+  passing_is : (made ts : List Term) → passing made ts ≡ option_map (λ us. made ++ us) (any_by_law ds l ts)
   passing_is made [] = refl
   passing_is made (t ∷ ts) = step (by_first ds l t) (passing_is (made ++ t ∷ []) ts)
     where
@@ -84,18 +84,39 @@ module _ (ds : Declarations) (l : EventLaw) where
       behind None = refl
       behind (Some us) = ap (λ vs. Some vs) (one_passed made t us)
 
-      step : (o : Option Term) → passing false (made ++ t ∷ []) ts ≡ option_map (λ us. (made ++ t ∷ []) ++ us) (any_by_law ds l ts) →
-          or_else (option_map (λ u. made ++ u ∷ ts) o) (passing false (made ++ t ∷ []) ts)
+      step : (o : Option Term) → passing (made ++ t ∷ []) ts ≡ option_map (λ us. (made ++ t ∷ []) ++ us) (any_by_law ds l ts) →
+          or_else (option_map (λ u. made ++ u ∷ ts) o) (passing (made ++ t ∷ []) ts)
           ≡ option_map (λ us. made ++ us) (or_else (option_map (λ u. u ∷ ts) o) (option_map (λ us. t ∷ us) (any_by_law ds l ts)))
       step None e = e ∙ behind (any_by_law ds l ts)
       step (Some u) e = refl
 
-  pub passing_none : (ts : List Term) → passing false [] ts ≡ any_by_law ds l ts
+  pub passing_none : (ts : List Term) → passing [] ts ≡ any_by_law ds l ts
   passing_none ts = passing_is [] ts ∙ same (any_by_law ds l ts)
     where
       same : (o : Option (List Term)) → option_map (λ us. [] ++ us) o ≡ o
       same None = refl
       same (Some us) = refl
+
+  -- where a loop stands
+  module _ (list : List Term) (i : ℕ) (t : Term) (more : i < length list) (is : t ≡ get_or list i t) (so_far : passing (take i list) (drop i list) ≡ any_by_law ds l list) where
+    at_this : any_by_law ds l list ≡ passing (take i list) (t ∷ drop (i + 1) list)
+    at_this = sym so_far ∙ ap (passing (take i list)) (drop_more list i t more ∙ ap (λ z. z ∷ drop (i + 1) list) (sym is))
+
+    pub stays : None ≡ by_first ds l t → passing (take (i + 1) list) (drop (i + 1) list) ≡ any_by_law ds l list
+    stays e =
+        ap (λ made. passing made (drop (i + 1) list)) (take_more list i t more ∙ ap (λ z. take i list ++ z ∷ []) (sym is))
+        ∙ ap (λ o. or_else (option_map (λ u. take i list ++ u ∷ drop (i + 1) list) o) (passing (take i list ++ t ∷ []) (drop (i + 1) list))) e
+        ∙ sym at_this
+
+    pub gives_way : (u : Term) (us : List Term) → Some u ≡ by_first ds l t → us ≡ slice_set list i u → Some us ≡ any_by_law ds l list
+    gives_way u us e f =
+        let on : suc i ≡ i + 1 = omega arith in
+        ap Some (f ∙ set_split list i u more ∙ ap (λ n. take i list ++ u ∷ drop n list) on)
+        ∙ ap (λ o. or_else (option_map (λ u. take i list ++ u ∷ drop (i + 1) list) o) (passing (take i list ++ t ∷ []) (drop (i + 1) list))) e
+        ∙ sym at_this
+
+  pub none_gives_way : (list : List Term) (i : ℕ) → length list ≤ i → passing (take i list) (drop i list) ≡ any_by_law ds l list → None ≡ any_by_law ds l list
+  none_gives_way list i end e = ap (passing (take i list)) (sym (drop_all i list end)) ∙ e
 
   -- a term stays, or the first one in it gives way
   abbrev pub Becomes : Term → Term → Type 0

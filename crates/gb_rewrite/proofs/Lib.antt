@@ -28,3 +28,4 @@ pub mod Statements
 pub mod Everywhere
 pub mod Others
 pub mod Sound
+pub mod Loops

@@ -1,10 +1,12 @@
 // The laws of events, and what they put in the place of a probability.
 
-ghost use Rattle.std.specs.Prelude.{◌≡◌, [], ◌∷◌, ◌++◌, IfOk};
+ghost use Rattle.std.specs.Prelude.{◌≡◌, ◌<◌, ◌↔◌, [], ◌∷◌, ◌++◌, length, slice_set, IfOk, IsTrue};
 ghost use Rattle.std.specs.Option.{option_map};
 ghost use Rattle.gb_terms.specs.declared.term.Term.{out-Term};
 ghost use Rattle.gb_goal.specs.Goal.Code.{procedure};
 ghost use Rattle.gb_full.specs.Loss.{code_loss};
+ghost use Rattle.gb_full.specs.Loss.Loss.{nowhere};
+ghost use Rattle.gb_typing.specs.Forms.{and_form};
 ghost use Rattle.gb_rewrite.specs.Events.{any_by_law, by_first, by_law, chance, divided, either, either_of, first_by_law, is_false, law_at, minus, negated, negation_of, plus, whole_by};
 
 use crate::rewritten::{before, with_args};
@@ -20,8 +22,8 @@ use gb_steps::step::EventLaw;
 use gb_terms::make::{binary, boolean, conjunction, negation, term};
 use gb_terms::module::ProcRef;
 use gb_terms::op::{Op, Side};
+use gb_terms::share::share_terms;
 use gb_terms::term::{Form, Head, RealTerm, Subject, Term, Terms};
-use sqlite_items::Items;
 use std::alloc::{AllocError, Global};
 
 /// A procedure that starts in a memory with these arguments.
@@ -36,10 +38,7 @@ struct Start<'a> {
 fn with_event(alloc: Global, arguments: &[Term], event: Form) -> Result<Terms, AllocError>
     ensures { IfOk result (λ made. made ≡ arguments.now ++ event ∷ []) }
 {
-    let mut made = Items::new(alloc);
-    for argument in arguments {
-        made.push(argument.share()?)?;
-    }
+    let mut made = share_terms(alloc, arguments)?;
     made.push(event)?;
     Ok(made)
 }
@@ -52,6 +51,29 @@ fn chance(alloc: Global, start: Start<'_>, event: Form) -> Result<RealTerm, Allo
     let procedure = start.procedure.share()?;
     let real = Shared::new(alloc, Ty::Real)?;
     term(alloc, Head::Pr(procedure, start.memory), args, real)
+}
+
+/// The probability of an event that stands elsewhere too.
+fn chance_of(alloc: Global, start: Start<'_>, event: &Form) -> Result<RealTerm, AllocError>
+    ensures { IfOk result (λ made. made ≡ chance start.entry.procedure.now start.entry.memory start.entry.arguments.now event.now) }
+{
+    let event = event.share()?;
+    chance(alloc, start, event)
+}
+
+/// The probability that two events are.
+fn chance_of_both(
+    alloc: Global,
+    start: Start<'_>,
+    a: &Form,
+    b: &Form,
+) -> Result<RealTerm, AllocError>
+    ensures { IfOk result (λ made. made ≡ chance start.entry.procedure.now start.entry.memory start.entry.arguments.now (and_form a.now b.now)) }
+{
+    let a = a.share()?;
+    let b = b.share()?;
+    let both = conjunction(alloc, a, b)?;
+    chance(alloc, start, both)
 }
 
 fn plus(alloc: Global, a: RealTerm, b: RealTerm) -> Result<RealTerm, AllocError>
@@ -99,21 +121,33 @@ fn is_false(event: &Form) -> bool
 fn either(alloc: Global, start: Start<'_>, a: &Form, b: &Form) -> Result<RealTerm, AllocError>
     ensures { IfOk result (λ made. made ≡ either start.entry.procedure.now start.entry.memory start.entry.arguments.now (a.now, b.now)) }
 {
-    let one = chance(alloc, start, a.share()?)?;
-    let sum = plus(alloc, one, chance(alloc, start, b.share()?)?)?;
-    let both = conjunction(alloc, a.share()?, b.share()?)?;
-    minus(alloc, sum, chance(alloc, start, both)?)
+    let one = chance_of(alloc, start, a)?;
+    let other = chance_of(alloc, start, b)?;
+    let sum = plus(alloc, one, other)?;
+    let both = chance_of_both(alloc, start, a, b)?;
+    minus(alloc, sum, both)
+}
+
+/// Whether a procedure loses no weight.
+fn loses_nothing(alloc: Global, scope: &Scope, named: &Shared<ProcRef>) -> Result<bool, AllocError>
+    ensures { IfOk result (λ b. IsTrue b ↔ (code_loss scope.now (procedure named.now) ≡ nowhere)) }
+{
+    let subject = Subject::Proc(named.share()?);
+    match subject_loss(alloc, scope, &subject)? {
+        Loss::Nowhere => Ok(true),
+        _ => Ok(false),
+    }
 }
 
 /// All that a procedure may come to: 1, where it loses no weight.
 fn whole(alloc: Global, scope: &Scope, start: Start<'_>) -> Result<RealTerm, AllocError>
     ensures { IfOk result (λ made. made ≡ whole_by (code_loss scope.now (procedure start.entry.procedure.now)) start.entry.procedure.now start.entry.memory start.entry.arguments.now) }
 {
-    let subject = Subject::Proc(start.procedure.share()?);
-    match subject_loss(alloc, scope, &subject)? {
-        Loss::Nowhere => number(alloc, 1),
-        _ => chance(alloc, start, boolean(alloc, true)?),
+    if loses_nothing(alloc, scope, start.procedure)? {
+        return number(alloc, 1);
     }
+    let always = boolean(alloc, true)?;
+    chance(alloc, start, always)
 }
 
 /// What `Pr[event]` leaves of all that a procedure may come to, which is `Pr[!event]`.
@@ -126,18 +160,19 @@ fn negated(
     ensures { IfOk result (λ made. made ≡ negated scope.now start.entry.procedure.now start.entry.memory start.entry.arguments.now event.now) }
 {
     let whole = whole(alloc, scope, start)?;
-    minus(alloc, whole, chance(alloc, start, event.share()?)?)
+    let part = chance_of(alloc, start, event)?;
+    minus(alloc, whole, part)
 }
 
 /// `Pr[a /\ b] + Pr[a /\ !b]`, which is `Pr[a]`.
 fn divided(alloc: Global, start: Start<'_>, a: &Form, b: &Form) -> Result<RealTerm, AllocError>
     ensures { IfOk result (λ made. made ≡ divided start.entry.procedure.now start.entry.memory start.entry.arguments.now a.now b.now) }
 {
-    let with = conjunction(alloc, a.share()?, b.share()?)?;
-    let other = negation(alloc, b.share()?)?;
-    let without = conjunction(alloc, a.share()?, other)?;
-    let with = chance(alloc, start, with)?;
-    plus(alloc, with, chance(alloc, start, without)?)
+    let other = b.share()?;
+    let other = negation(alloc, other)?;
+    let without = chance_of_both(alloc, start, a, &other)?;
+    let with = chance_of_both(alloc, start, a, b)?;
+    plus(alloc, with, without)
 }
 
 /// What a law puts in the place of a probability. None where it doesn't speak of it.
@@ -199,6 +234,16 @@ fn law_at(
     by_law(alloc, scope, law, start, event)
 }
 
+/// Terms with another one at a place.
+fn with_part(alloc: Global, list: &[Term], at: usize, part: Term) -> Result<Terms, AllocError>
+    requires { at < length list.now }
+    ensures { IfOk result (λ made. made ≡ slice_set list.now at part) }
+{
+    let mut made = share_terms(alloc, list)?;
+    made.set(at, part);
+    Ok(made)
+}
+
 /// A term with what a law puts in the place of the first probability that it speaks of, in the order of the text: one around others comes
 /// before them. None where it speaks of none. Divisors aren't gone through, nor are the programs of judgments.
 #[cycle(by_first)]
@@ -255,24 +300,11 @@ fn any_by_law(
 ) -> Result<Option<Terms>, AllocError>
     ensures { IfOk result (λ made. made ≡ any_by_law scope.now law.now list.now) }
 {
-    let mut made = Items::new(alloc);
-    let mut found = false;
-    for t in list {
-        let part = if found {
-            None
-        } else {
-            by_first(alloc, scope, law, t)?
-        };
-        match part {
-            Some(part) => {
-                found = true;
-                made.push(part)?;
-            }
-            None => made.push(t.share()?)?,
+    for at in 0..list.len() {
+        if let Some(part) = by_first(alloc, scope, law, &list[at])? {
+            let made = with_part(alloc, list, at, part)?;
+            return Ok(Some(made));
         }
     }
-    if !found {
-        return Ok(None);
-    }
-    Ok(Some(made))
+    Ok(None)
 }

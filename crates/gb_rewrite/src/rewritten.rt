@@ -10,6 +10,7 @@ ghost use Rattle.gb_rewrite.specs.Rewritten.{first_rewritten, rewritten, stands,
 use gb_core::SharedItems;
 use gb_steps::first::is_quotient;
 use gb_terms::same::same;
+use gb_terms::share::share_terms;
 use gb_terms::term::{Term, Terms};
 use sqlite_items::Items;
 use std::alloc::{AllocError, Global};
@@ -123,10 +124,9 @@ fn all_rewritten(
 pub fn before(alloc: Global, first: Term, others: &[Term]) -> Result<Terms, AllocError>
     ensures { IfOk result (λ made. made ≡ first ∷ others.now) }
 {
+    let others = share_terms(alloc, others)?;
     let mut made = Items::new(alloc);
     made.push(first)?;
-    for t in others {
-        made.push(t.share()?)?;
-    }
+    made.append(others)?;
     Ok(made)
 }

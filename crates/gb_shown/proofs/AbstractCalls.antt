@@ -3,7 +3,7 @@ use Rattle.std.proofs.Common.{◌≡◌, ℕ, Bool, true, false, ◌&&◌, if◌
 use Rattle.std.proofs.lemmas.Option.{same_Some, none-some}
 use Rattle.std.specs.List.{AllByRecursion}
 use Rattle.std.specs.Option.{option_map}
-use Rattle.gb_core.specs.declared.refusal.Why.TheVariants.{Shape}
+use Rattle.gb_core.specs.declared.refusal.Why.TheVariants.{NotLossless, Shape}
 use Rattle.gb_core.specs.declared.ty.Ty.{Ty}
 use Rattle.gb_core.specs.declared.ty.Ty.TheVariants as ty
 use Rattle.gb_core.specs.declared.var.Var.{Var}
@@ -38,19 +38,19 @@ use Rattle.gb_mods.specs.declared.meant.Meant.TheVariants.{Unknown, Declared, An
 use Rattle.gb_typing.proofs.Given.{refused_at, refused_given, same_given}
 use Rattle.gb_typing.specs.Forms.{and_form}
 use Rattle.gb_meaning.specs.Memory.{result_name}
-use Rattle.gb_prog.specs.AllValues.{to_bound_values}
+use Rattle.gb_prog.specs.AllValues.{to_bound_values, Located}
 use Rattle.gb_prog.specs.Writes.{TypedVariable}
 use Rattle.gb_bodies.specs.Conseq.{leads, pair_leads}
 use Rattle.gb_call.specs.Call.{in_front, unless_clash}
 use Rattle.gb_call.specs.LastCall.{LastCall, last_call}
-use Rattle.gb_call.specs.Outcomes.{clash_after, is_left, reads_result}
+use Rattle.gb_call.specs.Outcomes.{clash_after, is_left, reads_result, Outcome}
 use Rattle.gb_call.specs.Written.{with_types}
-use Rattle.gb_call_both.specs.BothOutcomes.{result_of}
+use Rattle.gb_call_both.specs.BothOutcomes.{after_among, result_of, results_among, values_among}
 use Rattle.gb_adv.specs.Abstract.{AbstractCall, AbstractProcedure, abstract_call, abstract_procedure, any_one, calling, same_abstract}
 use Rattle.gb_adv.specs.Call as calls_of
 use Rattle.gb_adv.specs.Call.{before_call, before_calls, by_calls, by_written, call_row, clash_of_both, outcome, read_after, returns}
 use Rattle.gb_adv.specs.Equations.{and_each, followed_by, led_by, reading, same_arguments, same_in_both, same_owner, same_params, same_result}
-use Rattle.gb_adv.specs.Oracles.{behind, each_keep_both, each_keeps, keep_both, meeting, meeting_both, with_both, writes_of}
+use Rattle.gb_adv.specs.Oracles.{behind, each_keep_both, each_keeps, keep_both, meeting, meeting_both, with_both, writes_of, keeps}
 use Rattle.gb_adv.specs.OwnNames.{own_names}
 use Rattle.gb_adv.specs.Proc as procedures_of
 use Rattle.gb_adv.specs.Proc.{end_alike, one_goals, proc_row, start_alike}
@@ -65,11 +65,15 @@ use Rattle.gb_shown.proofs.BothCalls.{globals_have, left_named, result_have}
 use Rattle.gb_shown.proofs.SpeltCalls as one
 use Rattle.gb_shown.proofs.SpeltCalls.{NamedCall, NamedOutcome, few_keeps, last_named, types_named}
 use Rattle.gb_shown.proofs.Changed.{PutNamed, changed_named}
-use Rattle.gb_shown.proofs.SpeltForms.{and_named, as_result, equal_named, every_named, every_pair_named, implies_named, located_named, puts_append}
+use Rattle.gb_shown.proofs.SpeltForms.{and_named, as_result, equal_named, every_named, every_pair_named, implies_named, located_named, puts_append, not_named}
 use Rattle.gb_shown.proofs.Loops.{unless_keeps}
 use Rattle.gb_shown.proofs.Programs.{AllOf}
 use Rattle.gb_shown.proofs.SpeltStatements.{EachNamed}
 use Rattle.gb_shown.proofs.SpeltTrees.{AllNamed, node_named}
+use Rattle.gb_adv.specs.Until.{after_until, as_long, before_until, by_full, by_writes_until, changed_in, each_keep_until, end_until, keep_until, not_yet, on_both_until, start_until, until_goals, until_row, with_until}
+use Rattle.gb_call_both.specs.OneSide.{speaks, where_full}
+use Rattle.gb_full.specs.Loss.{Loss, nowhere, sampled, called, code_loss}
+use Rattle.gb_steps.specs.declared.step.Until.{Until}
 
 abbrev AreWritten : List ProcRef → Type 0
 AreWritten os = AllByRecursion (IsWrittenProcedure []) os
@@ -362,6 +366,116 @@ module _ (es : List Enumeration) where
       proc_keeps (phoare a r p q b) w Gs e = refused_given Shape Gs e
       proc_keeps (ambient f) w Gs e = refused_given Shape Gs e
 
+    -- Calls, by what is kept until an event has come about.
+
+    full_keeps : (l : Loss) (a : Answer (List Goal)) (Gs : List Goal) → where_full l a ≡ given Gs → a ≡ given Gs
+    full_keeps nowhere a Gs e = e
+    full_keeps (sampled x) a Gs e = refused_given (NotLossless x) Gs e
+    full_keeps called a Gs e = refused_given Shape Gs e
+
+    -- what is given where a test doesn't hold
+    untested : (b : Bool) (a : Answer (List Goal)) (Gs : List Goal) → (if b then refusing Shape else a) ≡ given Gs → a ≡ given Gs
+    untested true a Gs e = refused_given Shape Gs e
+    untested false a Gs e = e
+
+    module _ (u : Until) (m : IsNamed es u.event) (n : IsNamed es u.kept) where
+      long_named : (f : Term) → IsNamed es f → IsNamed es (as_long u f)
+      long_named f x = implies_named es (not_yet u) f (not_named es _ (located_named es Right u.event m)) x
+
+      until_named : (o p : ProcRef) (t v : ProcedureType) → IsWrittenProcedure [] o → IsWrittenProcedure [] p → HasNamedTypes t → HasNamedTypes v → IsNamedGoal es (keep_until u o t p v)
+      until_named o p t v w x h k = (
+        w,
+        x,
+        and_named es _ u.kept
+            (followed_named (not_yet u) (same_params t.params v.params) (not_named es _ (located_named es Right u.event m)) (params_named t.params v.params h.0 k.0)) n,
+        long_named _ (and_named es (same_result t.result) u.kept (result_named t.result h.1) n),
+      )
+
+      untils_keep : (os ps : List ProcRef) → AreWritten os → AreWritten ps → (Gs : List Goal) → each_keep_until ds u os ps ≡ given Gs → All Gs
+      untils_keep [] ps v w Gs e = subst All (same_given [] Gs e) tt
+      untils_keep (o ∷ os) [] v w Gs e = subst All (same_given [] Gs e) tt
+      untils_keep (o ∷ os) (p ∷ ps) v w Gs e = by (λ Hs f. untils_keep os ps v.1 w.1 Hs f) (procedure_type ds None o) refl (procedure_type ds None p) refl e
+        where
+          by : ((Hs : List Goal) → each_keep_until ds u os ps ≡ given Hs → All Hs) → (t : Option ProcedureType) → procedure_type ds None o ≡ t → (z : Option ProcedureType) → procedure_type ds None p ≡ z → with_until u o t p z (each_keep_until ds u os ps) ≡ given Gs → All Gs
+          by rest (Some t) h (Some z) k e =
+              front_keeps (keep_until u o t p z) (in_front (keeps u.event p) (each_keep_until ds u os ps)) Gs (until_named o p t z v.0 w.0 (procedures.types o t h) (procedures.types p z k))
+              (λ Hs f. front_keeps (keeps u.event p) (each_keep_until ds u os ps) Hs (w.0, m, m) rest f)
+              (tested (own_names t.params && own_names z.params) (in_front (keep_until u o t p z) (in_front (keeps u.event p) (each_keep_until ds u os ps))) Gs e)
+          by rest (Some t) h None k e = refused_given Shape Gs e
+          by rest None h z k e = refused_given Shape Gs e
+
+      start_named : (k l : AbstractCall) → NamedAbstractCall k → NamedAbstractCall l → IsNamed es (start_until u k l)
+      start_named k l a b =
+          let f = a.called in
+          let c = a.call in
+          let d = b.call in
+          long_named _ (and_named es _ _ (followed_named u.kept (same_arguments k.call.arguments l.call.arguments) n (arguments_named k.call.arguments l.call.arguments c.arguments d.arguments)) (owner_named k.called.owner f.owner))
+
+      end_named : (f : AbstractProcedure) → NamedAbstract f → IsNamed es (end_until u f)
+      end_named f a = let t = a.types in long_named _ (and_named es _ u.kept (and_named es _ _ (result_named f.type.result t.1) (owner_named f.owner a.owner)) n)
+
+      values_named : (a : List ℕ) (o p : Outcome) (said q : Term) → is_path a ≡ true → NamedOutcome es o → NamedOutcome es p → IsNamed es said → IsNamed es q → IsNamed es (after_among true true o p (changed_in a o p) said q)
+      values_named a o p said q h v w x y =
+          let G : List Located = changed_in a o p in
+          let changed : HaveTypes G = (h, (h, globals_have es o p v w)) in
+          let have : HaveTypes (values_among true true o p G) = have_append (result_of true o) (result_of true p ++ G) (result_have es true o v) (have_append (result_of true p) G (result_have es true p w) changed) in
+          let left = left_named es true o (length (result_of true p ++ G)) v in
+          let right = left_named es true p (length G) w in
+          for_all_named es (values_among true true o p G) _ have
+          (implies_named es _ _ (changed_named es said (to_bound_values (values_among true true o p G)) (bound_values_named es (values_among true true o p G) have) x)
+          (changed_named es q (results_among true true o p G ++ to_bound_values G) (puts_append es (results_among true true o p G) (to_bound_values G) (puts_append es _ _ left right) (bound_values_named es G changed)) y))
+
+      start_and_end : (k l : AbstractCall) (W V : List TypedVariable) (q : Term) → NamedAbstractCall k → NamedAbstractCall l → AreOfTypes W → AreOfTypes V → IsNamed es q → IsNamed es (before_until u k W l V q)
+      start_and_end k l W V q a b w v y =
+          let f = a.called in
+          and_named es (start_until u k l) (after_until u k W l V q) (start_named k l a b)
+          (values_named k.called.owner (outcome Left k W) (outcome Right l V) (end_until u k.called) q f.owner (outcome_named Left k W a w) (outcome_named Right l V b v) (end_named k.called f) y)
+
+      until_both_keep : (k l : AbstractCall) (p q : Term) (Gs : List Goal) → NamedAbstractCall k → NamedAbstractCall l → IsNamed es p → IsNamed es q → (x y : Option (List TypedVariable)) →
+          ((W : List TypedVariable) → x ≡ Some W → AreOfTypes W) → ((V : List TypedVariable) → y ≡ Some V → AreOfTypes V) → until_goals ds u k l p q x y ≡ given Gs → All Gs
+      until_both_keep k l p q Gs a b c d (Some W) (Some V) f g e =
+          let left = a.called in
+          let right = b.called in
+          let here = a.call in
+          let there = b.call in
+          behind_keep (each_keep_until ds u k.called.oracles l.called.oracles) (equiv (body k.call.before) (body l.call.before) p (before_until u k W l V q) ∷ []) Gs
+          (λ Fs h. untils_keep k.called.oracles l.called.oracles left.oracles right.oracles Fs h)
+          ((here.before, there.before, c, start_and_end k l W V q a b (f W refl) (g V refl) d), tt) e
+      until_both_keep k l p q Gs a b c d (Some W) None f g e = refused_given Shape Gs e
+      until_both_keep k l p q Gs a b c d None y f g e = refused_given Shape Gs e
+
+      until_writes_keep : (k l : AbstractCall) (p q : Term) (Gs : List Goal) → NamedAbstractCall k → NamedAbstractCall l → IsNamed es p → IsNamed es q → (x y : Option (List Var)) → by_writes_until ds u k l p q x y ≡ given Gs → All Gs
+      until_writes_keep k l p q Gs a b c d (Some T) (Some U) e =
+          let said = end_until u k.called in
+          let x = read_after ds Left k said q T in
+          let y = read_after ds Right l said q U in
+          let goals = until_goals ds u k l p q x y in
+          let clash = clash_of_both (exclusions ds) k l said q T U in
+          let full = unless_keeps clash (by_full ds u said k l p q T U) Gs (unless_keeps (meeting_both (exclusions ds) k.called.owner (as_long u u.kept) T U) (unless_clash clash (by_full ds u said k l p q T U)) Gs e) in
+          until_both_keep k l p q Gs a b c d x y (λ S h. types_named ds globals _ S h) (λ S h. types_named ds globals _ S h)
+          (full_keeps (code_loss ds (procedure l.call.procedure)) goals Gs (full_keeps (code_loss ds (procedure k.call.procedure)) (where_full (code_loss ds (procedure l.call.procedure)) goals) Gs full))
+      until_writes_keep k l p q Gs a b c d (Some T) None e = refused_given Shape Gs e
+      until_writes_keep k l p q Gs a b c d None y e = refused_given Shape Gs e
+
+      on_both_until_keep : (p q : Term) (Gs : List Goal) → IsNamed es p → IsNamed es q → (x y : Option AbstractCall) → ((k : AbstractCall) → x ≡ Some k → NamedAbstractCall k) → ((l : AbstractCall) → y ≡ Some l → NamedAbstractCall l) →
+          on_both_until ds u p q x y ≡ given Gs → All Gs
+      on_both_until_keep p q Gs c d (Some k) (Some l) f g e =
+          let few = tested (same_abstract k.called l.called) _ Gs e in
+          until_writes_keep k l p q Gs (f k refl) (g l refl) c d (writes_of ds k.called.oracles) (writes_of ds l.called.oracles)
+          (untested (speaks u.event) _ Gs (few_keeps l.call.targets _ Gs (few_keeps k.call.targets _ Gs few)))
+      on_both_until_keep p q Gs c d (Some k) None f g e = refused_given Shape Gs e
+      on_both_until_keep p q Gs c d None y f g e = refused_given Shape Gs e
+
+      until_keeps : KeepsNames es (until_row ds u)
+      until_keeps (equiv (body is) (body js) p q) h Gs e =
+          on_both_until_keep p q Gs h.2 h.3 (abstract_call ds (last_call is)) (abstract_call ds (last_call js)) (λ k f. last_found is h.0 k f) (λ l f. last_found js h.1 l f) e
+      until_keeps (equiv (body is) (procedure f) p q) h Gs e = refused_given Shape Gs e
+      until_keeps (equiv (procedure f) b p q) h Gs e = refused_given Shape Gs e
+      until_keeps (hoare a p q) h Gs e = refused_given Shape Gs e
+      until_keeps (phoare a r p q b) h Gs e = refused_given Shape Gs e
+      until_keeps (ambient f) h Gs e = refused_given Shape Gs e
+
     pub abstract_keep : (r : AbstractRule) → IsNamedKept es r → KeepsNames es (abstract_row ds r)
     abstract_keep (abstract_rule.Call i) n = calls_keep i n
+    abstract_keep (abstract_rule.CallUntil u) n = until_keeps u n.0 n.1
     abstract_keep (abstract_rule.Proc i) n = proc_keeps i n

@@ -36,6 +36,7 @@ use Rattle.gb_steps.specs.declared.step.RelationalRule.TheVariants as relational
 use Rattle.gb_steps.specs.declared.step.RewriteRule.TheVariants as rewrite_rule
 use Rattle.gb_steps.specs.declared.step.Rule.{Rule}
 use Rattle.gb_steps.specs.declared.step.Rule.TheVariants as rule
+use Rattle.gb_steps.specs.declared.step.Until.{Until}
 use Rattle.gb_steps.specs.declared.step.Step.{Step}
 use Rattle.gb_steps.specs.Chances.{Bounded, Compared, bounded_of, chances_of}
 use Rattle.gb_steps.specs.First.{first_procedure}
@@ -49,7 +50,7 @@ use Rattle.gb_names.specs.Environment.{Environment, ambient as ambient_in, relat
 use Rattle.gb_names.specs.Judgments.{Named as Reference, functor_procedure, named_procedure}
 use Rattle.gb_elab.specs.Forms.{elaborated}
 use Rattle.gb_elab_mod.specs.Multiples.{hypothesis_at, multiples, position}
-use Rattle.gb_elab_mod.specs.OnPrograms.{functions_of, acts, calls_by, entering_rule, kept_of, kept_on, procedures_by, on_all, plain_rule, cut_of, chance_rule, both_rule, named_rule, params_if, result_if, last_procedure, contract_of, contract_of_both, contract_on, contract_at, call_rule, related, said_around, by_phoare_rule, by_equiv_rule, by_rule, between_of, procedures_of, Contracts, contracts, between_by, between_words, between_functor, between_at, transitive_rule}
+use Rattle.gb_elab_mod.specs.OnPrograms.{functions_of, acts, calls_by, calls_until, until_of, until_on, entering_rule, kept_of, kept_on, procedures_by, on_all, plain_rule, cut_of, chance_rule, both_rule, named_rule, params_if, result_if, last_procedure, contract_of, contract_of_both, contract_on, contract_at, call_rule, related, said_around, by_phoare_rule, by_equiv_rule, by_rule, between_of, procedures_of, Contracts, contracts, between_by, between_words, between_functor, between_at, transitive_rule}
 use Rattle.gb_elab_mod.specs.Steps.{conclusion_rule, formed, asked_of, value_witness, memory_witness, witness_rule, pattern, passing_rule, placed_rule, transforming_rule, event_law_rule, if_there, splitting_rule, event_rule, equals_rule, used_rule, calls_of, inlining_rule, looping_rule, have_rule, typed_rule, step_given}
 use Rattle.gb_elab_mod.specs.Taken.{new_name}
 use Rattle.gb_elab_mod.specs.Uses.{all_hinted, defined_operator, hypothesis, is_memory, memory_of, used}
@@ -334,6 +335,31 @@ module _ (forms : OfForms) (es : List Enumeration) (ds : Declarations) (k : IsNa
   procedures_by_named None h = tt
   procedures_by_named (Some f) h = h
 
+  -- What they keep until an event has come about.
+
+  abbrev IsNamedUntil : Option Until → Type 0
+  IsNamedUntil None = Unit {0}
+  IsNamedUntil (Some u) = Named u.event × Named u.kept
+
+  until_forms_named : (t v : Node) → IsReadTree t → IsReadTree v → (G : Goal) (o : Option Until) → until_of ds q t v G ≡ given o → IsNamedUntil o
+  unfolding until_of
+  until_forms_named t v l m (equiv a d p g) o e =
+      let b = given_bind (elaborated t (unary ds q []) [] (Some ty.Bool)) _ o e in
+      let c = given_bind (elaborated v (relational ds q [] []) [] (Some ty.Bool)) (λ (f : Term). given (Some (record { event = b.0; kept = f }))) o b.2 in
+      let made : Until = record { event = b.0; kept = c.0 } in
+      subst IsNamedUntil {x = Some made} (given_is (Some made) o c.2)
+      (truth_named forms es ds k q n _ (unary_named es ds k q n [] tt) t l b.0 b.1, truth_named forms es ds k q n _ (relational_named es ds k q n [] [] tt tt) v m c.0 c.1)
+  until_forms_named t v l m _ o e = subst IsNamedUntil {x = None} (given_is None o e) tt
+
+  until_on_named : (a : Acts) (t v : Node) → IsReadTree t → IsReadTree v → (o : Option Until) → until_on ds q a t v ≡ given o → IsNamedUntil o
+  until_on_named on.All t v l m o e = until_forms_named t v l m (goal_of q.conclusion) o e
+  until_on_named on.Left t v l m o e = subst IsNamedUntil {x = None} (given_is None o e) tt
+  until_on_named on.Right t v l m o e = subst IsNamedUntil {x = None} (given_is None o e) tt
+
+  until_named : (o : Option Until) → IsNamedUntil o → AreNamedArguments es (calls_until o)
+  until_named None h = tt
+  until_named (Some u) h = h
+
   entering_named : (a : Acts) (ns : List Node) → AreRead ns → (p : Place) → Gives (entering_rule ds q a ns p)
   entering_named a [] l p r e = subst (AreNamedArguments es) (given_is _ r e) (on_all_named a on_bodies.Proc tt)
   entering_named a (t ∷ []) l p r e =
@@ -349,6 +375,11 @@ module _ (forms : OfForms) (es : List Enumeration) (ds : Declarations) (k : IsNa
       let b = given_bind (kept_on ds q a t) (λ o. given (calls_by o)) r e in subst (AreNamedArguments es) (given_is _ r b.2) (calls_by_named b.0 (kept_on_named a t l.0 b.0 b.1))
   call_named a text.CallInvariant [] l p r e = none_built p r e
   call_named a text.CallInvariant (t ∷ u ∷ ns) l p r e = none_built p r e
+  call_named a text.CallUpto (t ∷ u ∷ []) l p r e =
+      let b = given_bind (until_on ds q a t u) (λ o. given (calls_until o)) r e in subst (AreNamedArguments es) (given_is _ r b.2) (until_named b.0 (until_on_named a t u l.0 l.1.0 b.0 b.1))
+  call_named a text.CallUpto [] l p r e = none_built p r e
+  call_named a text.CallUpto (t ∷ []) l p r e = none_built p r e
+  call_named a text.CallUpto (t ∷ u ∷ v ∷ ns) l p r e = none_built p r e
   call_named a text.CallLemma (t ∷ []) l p r e = let b = given_bind (used ds q t) _ r e in subst (AreNamedArguments es) (given_is _ r b.2) (used_is_named forms es ds k q n t l.0 b.0 b.1)
   call_named a text.CallLemma [] l p r e = none_built p r e
   call_named a text.CallLemma (x ∷ y ∷ ns) l p r e = none_built p r e

@@ -148,6 +148,7 @@ IsNamedRewrite es _ = Unit {0}
 -- what oracles are said to keep
 abbrev pub IsNamedKept : List Enumeration → AbstractRule → Type 0
 IsNamedKept es (abstract_rule.Call f) = IsNamed es f
+IsNamedKept es (abstract_rule.CallUntil u) = IsNamed es u.event × IsNamed es u.kept
 IsNamedKept es (abstract_rule.Proc f) = IsNamed es f
 
 -- the names and the forms that any rule is given

@@ -1,6 +1,7 @@
 //! What expressions, statements and procedures read, at the types at which they read it.
 
 ghost use Rattle.std.specs.Prelude.{◌≡◌, ◌++◌, IfOk};
+ghost use Rattle.gb_mods.specs.Meant.{meant_by};
 ghost use Rattle.gb_sim.specs.Reads.{each_reads, globals_among, head_reads, list_reads, procedure_reads, reached_reads, reads_by, reads_itself, statement_reads, term_reads, whole};
 
 use gb_core::Shared;
@@ -146,6 +147,18 @@ fn reads_itself(alloc: Global, meant: &Meant) -> Result<Option<TypedVars>, Alloc
     }
 }
 
+/// The same of what a reference means.
+fn reads_of(
+    alloc: Global,
+    scope: &Scope,
+    procedure: &ProcRef,
+) -> Result<Option<TypedVars>, AllocError>
+    ensures { IfOk result (λ made. made ≡ reads_itself (meant_by scope.now procedure.now)) }
+{
+    let meant = meant_by(alloc, scope, procedure)?;
+    reads_itself(alloc, &meant)
+}
+
 /// The globals that procedures read themselves. None where it isn't known what one stands for.
 fn reads_by(
     alloc: Global,
@@ -156,8 +169,7 @@ fn reads_by(
 {
     let mut all = Items::new(alloc);
     for x in list {
-        let meant = meant_by(alloc, scope, x.get())?;
-        let Some(own) = reads_itself(alloc, &meant)? else {
+        let Some(own) = reads_of(alloc, scope, x.get())? else {
             return Ok(None);
         };
         all = with_variables(all, own.as_slice())?;

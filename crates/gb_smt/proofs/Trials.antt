@@ -46,18 +46,28 @@ module _ (ds : Declarations) where
 
   -- what claims show none of which is found true, one claim further
 
-  module _ (cs : List Claim) (i : ℕ) (c : Claim) (t : Trial) (o : Open) (l : i < length cs) (e : c ≡ get_or cs i c) (p : t ≡ trial_of ds c) where
-    one_open : open_after ds o (drop i cs) ≡ cond (is_true t.found) None (open_after ds (and_then o (open_at t)) (drop (i + 1) cs))
+  module _ (cs : List Claim) (i : ℕ) (c : Claim) (o : Open) (f : Option Open) (l : i < length cs) (e : c ≡ get_or cs i c)
+      (p : f ≡ cond (is_found_true ds c) None (Some (open_at (trial_of ds c)))) where
+    abbrev after : Option Open → Option Open
+    after None = None
+    after (Some u) = open_after ds (and_then o u) (drop (i + 1) cs)
+
+    one_open : open_after ds o (drop i cs) ≡ after f
     one_open =
         at_drop_more (open_after ds o) cs i c l
         ∙ ap (λ d. open_after ds o (d ∷ drop (i + 1) cs)) (sym e)
-        ∙ sym (ap (λ u. cond (is_true u.found) None (open_after ds (and_then o (open_at u)) (drop (i + 1) cs))) p)
+        ∙ by_found (is_found_true ds c)
+        ∙ ap after (sym p)
+      where
+        by_found : (b : Bool) → cond b None (open_after ds (and_then o (open_at (trial_of ds c))) (drop (i + 1) cs)) ≡ after (cond b None (Some (open_at (trial_of ds c))))
+        by_found true = refl
+        by_found false = refl
 
-    pub open_stop : is_true t.found ≡ true → open_after ds o (drop i cs) ≡ None
-    open_stop h = one_open ∙ ap (λ b. cond b None (open_after ds (and_then o (open_at t)) (drop (i + 1) cs))) h
+    pub open_stop : f ≡ None → None ≡ open_after ds o (drop i cs)
+    open_stop h = sym (one_open ∙ ap after h)
 
-    pub open_next : is_true t.found ≡ false → open_after ds (and_then o (open_at t)) (drop (i + 1) cs) ≡ open_after ds o (drop i cs)
-    open_next h = sym (one_open ∙ ap (λ b. cond b None (open_after ds (and_then o (open_at t)) (drop (i + 1) cs))) h)
+    pub open_next : (u : Open) → f ≡ Some u → open_after ds (and_then o u) (drop (i + 1) cs) ≡ open_after ds o (drop i cs)
+    open_next u h = sym (one_open ∙ ap after h)
 
   open_is : (o : Open) (cs : List Claim) → open_after ds o cs ≡ cond (list_any (is_found_true ds) cs) None (Some (fold and_then o (map (λ c. open_at (trial_of ds c)) cs)))
   open_is o [] = refl

@@ -1,11 +1,11 @@
 // The rule `smt`.
 
-ghost use Rattle.std.specs.Prelude.{◌≡◌, Some, IfOk};
+ghost use Rattle.std.specs.Prelude.{◌≡◌, if◌then◌else◌, Some, None, IfOk};
 ghost use Rattle.std.specs.List.{All};
 ghost use Rattle.gb_smt.specs.declared.leaves.Leaf.{Leaf};
 ghost use Rattle.gb_smt.specs.Leaves.{leaves_of};
 ghost use Rattle.gb_smt.specs.Claims.{claims_of};
-ghost use Rattle.gb_smt.specs.Apply.{trial_at, trial_of, trial_with, is_true, open_after, open_at, and_then, left_open, outcome_of, IsAnswer, IsAnswerOf, IsClosed, IsResult, IsTriedAnswer};
+ghost use Rattle.gb_smt.specs.Apply.{trial_at, trial_of, trial_with, is_true, is_found_true, open_after, open_at, and_then, left_open, outcome_of, IsAnswer, IsAnswerOf, IsClosed, IsResult, IsTriedAnswer};
 
 use crate::assign::{Found, labelled_claim, try_choices};
 use crate::atoms::number_of_atoms;
@@ -143,6 +143,17 @@ fn and_then(first: Open, others: Open) -> Open
     }
 }
 
+/// What a claim shows, where it isn't found true.
+fn open_claim(alloc: Global, claim: &Claim, scope: &Scope) -> Result<Option<Open>, AllocError>
+    ensures { IfOk result (λ found. found ≡ (if is_found_true scope.now claim.now then None else Some (open_at (trial_of scope.now claim.now)))) }
+{
+    let trial = try_claim(alloc, claim, scope)?;
+    if is_true(&trial.found) {
+        return Ok(None);
+    }
+    Ok(Some(open_at(&trial)))
+}
+
 /// What some claims have shown, and claims behind them, where none of these is found true.
 fn open_after(
     alloc: Global,
@@ -154,11 +165,10 @@ fn open_after(
 {
     let mut shown = from;
     for claim in list {
-        let trial = try_claim(alloc, claim, scope)?;
-        if is_true(&trial.found) {
+        let Some(more) = open_claim(alloc, claim, scope)? else {
             return Ok(None);
-        }
-        shown = and_then(shown, open_at(&trial));
+        };
+        shown = and_then(shown, more);
     }
     Ok(Some(shown))
 }

@@ -16,11 +16,23 @@ use std::alloc::{AllocError, Global};
 
 /// Hypotheses and a conclusion that share variables, and these in the order of their first places, in the hypotheses
 /// and then in the conclusion.
-#[derive(Drop)]
 pub struct Claim {
     pub hyps: Terms,
     pub conclusion: Term,
     pub variables: Variables,
+}
+
+impl Drop for Claim {
+    fn drop(self) {
+        let Claim {
+            hyps,
+            conclusion,
+            variables,
+        } = self;
+        drop(hyps);
+        drop(conclusion);
+        drop(variables);
+    }
 }
 
 pub type Claims = Items<Claim>;

@@ -20,10 +20,16 @@ use sqlite_items::Items;
 use std::alloc::{AllocError, Global};
 
 /// A hypothesis that is used up, by its place, and the replacement that it stands for.
-#[derive(Drop)]
 struct Equation {
     place: usize,
     changes: Changes,
+}
+
+impl Drop for Equation {
+    fn drop(self) {
+        let Equation { place: _, changes } = self;
+        drop(changes);
+    }
 }
 
 impl Equation {

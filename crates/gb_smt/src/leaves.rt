@@ -19,21 +19,38 @@ use sqlite_items::Items;
 use std::alloc::{AllocError, Global};
 
 /// A part of a goal: its hypotheses imply its conclusion.
-#[derive(Drop)]
 pub struct Leaf {
     pub hyps: SharedItems<Term>,
     pub conclusion: Term,
+}
+
+impl Drop for Leaf {
+    fn drop(self) {
+        let Leaf { hyps, conclusion } = self;
+        drop(hyps);
+        drop(conclusion);
+    }
 }
 
 pub type Leaves = Items<Shared<Leaf>>;
 
 /// The context of a part of the conclusion: how many logical variables and memories there are, and what became of the
 /// quantifiers around the part.
-#[derive(Drop)]
 pub struct Context {
     logical: u32,
     memories: u32,
     changes: Changes,
+}
+
+impl Drop for Context {
+    fn drop(self) {
+        let Context {
+            logical: _,
+            memories: _,
+            changes,
+        } = self;
+        drop(changes);
+    }
 }
 
 fn next_place(place: u32) -> Result<u32, AllocError>

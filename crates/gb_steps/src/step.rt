@@ -188,11 +188,20 @@ pub struct Contract {
     pub post: Form,
 }
 
+/// What is kept until an event has come about, which is read in the right memory.
+#[derive(Drop)]
+pub struct Until {
+    pub event: Form,
+    pub kept: Form,
+}
+
 /// A rule on procedures of abstract modules, by a form that their oracles keep.
 #[derive(Drop)]
 pub enum AbstractRule {
     /// The calls that end the programs.
     Call(Form),
+    /// The calls that end two programs, by a form that is kept until an event has come about, which the right oracles keep.
+    CallUntil(Until),
     /// The procedures themselves.
     Proc(Form),
 }

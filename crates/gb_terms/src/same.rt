@@ -6,7 +6,6 @@ ghost use Rattle.gb_terms.specs.Heads.{is_judgment};
 ghost use Rattle.gb_terms.specs.Operators.{op_place, op_part};
 ghost use Rattle.gb_terms.specs.SameModules.{mexp_eq};
 
-use crate::decl::TypedName;
 use crate::module::{Bind, Bound, Mexp, ProcRef};
 use crate::op::{Op, Read, Rel, Side};
 use crate::term::{Cmd, Head, Instr, Pair, Subject, Term};
@@ -218,26 +217,6 @@ fn same_pairs(a: &[Pair], b: &[Pair]) -> bool
     }
     for i in 0..a.len() {
         if !same_pair(&a[i], &b[i]) {
-            return false;
-        }
-    }
-    true
-}
-
-fn same_typed_name(a: &TypedName, b: &TypedName) -> bool
-    ensures { IsTrue result ↔ a.now ≡ b.now }
-{
-    same_name(&a.name, &b.name) && same_ty(a.ty.get(), b.ty.get())
-}
-
-pub fn same_typed(a: &[TypedName], b: &[TypedName]) -> bool
-    ensures { IsTrue result ↔ a.now ≡ b.now }
-{
-    if a.len() != b.len() {
-        return false;
-    }
-    for i in 0..a.len() {
-        if !same_typed_name(&a[i], &b[i]) {
             return false;
         }
     }

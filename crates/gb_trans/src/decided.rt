@@ -28,6 +28,7 @@ use gb_steps::step::Acts;
 use gb_terms::term::{Cmd, Form, Instr, Instrs, Term};
 use sqlite_items::Items;
 use std::alloc::{AllocError, Global};
+use std::slice::from_ref;
 
 /// A guard, and what its statement comes to where the guard is known.
 #[derive(Clone, Copy)]
@@ -78,9 +79,8 @@ fn with_left(
     match left {
         Left::Side(side) => with_statements(alloc, found, side.list.as_slice()),
         Left::Turn(body) => {
-            let mut list = with_statements(alloc, found, body.list.as_slice())?;
-            list.push(statement.share(alloc)?)?;
-            Ok(list)
+            let list = with_statements(alloc, found, body.list.as_slice())?;
+            with_statements(alloc, list, from_ref(statement))
         }
         Left::Nothing => Ok(found),
     }

@@ -12,9 +12,8 @@ ghost use Rattle.gb_trans.specs.Kill.{kill_row, killed, may_go, read_behind, unr
 use crate::effects::{effects_of, least_met};
 use crate::places::{Placed, statement_at};
 use crate::reads::{reads_of, variables_read};
-use crate::swap::with_statements;
+use crate::swap::{unless_crossing, with_statements};
 use crate::transformed::with_body;
-use gb_core::copy::copy_var;
 use gb_core::refusal::{Refused, Why};
 use gb_core::var::Vars;
 use gb_full::loss::first_loss;
@@ -30,6 +29,7 @@ use gb_terms::op::Side;
 use gb_terms::term::{Form, Instr, Instrs};
 use sqlite_items::Items;
 use std::alloc::{AllocError, Global};
+use std::slice::from_ref;
 
 /// The variables that statements read, and a form behind them through a memory.
 fn read_behind(
@@ -59,28 +59,25 @@ fn check_behind(
     ensures { Answers (let o = one_seen one.now in unread (excluding.exclusions scope.now) (read_behind scope.now rest.now o.side o.post) (effect.effects_of scope.now list.now)) result }
 {
     let side = side_of(one.around);
+    let excluded = exclusions(alloc, scope)?;
     let Some(read) = read_behind(alloc, scope, rest, &side, one.post)? else {
         return Err(no_shape());
     };
     let Some(effects) = effects_of(alloc, scope, list)? else {
         return Err(no_shape());
     };
-    let excluded = exclusions(alloc, scope)?;
     let written = effects.written.as_slice();
-    match least_met(None, excluded.as_slice(), written, read.as_slice()) {
-        Some(x) => Err(refusal(Why::SideCondition(copy_var(alloc, x)?))),
-        None => Ok(()),
-    }
+    let met = least_met(None, excluded.as_slice(), written, read.as_slice());
+    unless_crossing(alloc, met)
 }
 
 /// Refuses a statement that writes what is read behind it, or may lose weight.
 fn may_go(alloc: Global, scope: &Scope, one: &OneBody<'_>, at: &Placed<'_>) -> Result<(), Refused>
     ensures { Answers (may_go scope.now (one_seen one.now) (placed_seen at.now)) result }
 {
-    let mut alone = Items::new(alloc);
-    alone.push(at.statement.share(alloc)?)?;
-    check_behind(alloc, scope, alone.as_slice(), one, at.rest)?;
-    let lost = first_loss(alloc, scope, alone.as_slice())?;
+    let alone = from_ref(at.statement);
+    check_behind(alloc, scope, alone, one, at.rest)?;
+    let lost = first_loss(alloc, scope, alone)?;
     full(alloc, lost)
 }
 

@@ -1,6 +1,7 @@
 //! The rule `swap`.
 
 ghost use Rattle.std.specs.Prelude.{◌≡◌, ◌≤◌, ◌+◌, ◌++◌, length, IfOk};
+ghost use Rattle.std.specs.Option.{option_copied};
 ghost use Rattle.gb_goal.specs.Answers.{Answers};
 ghost use Rattle.gb_goal.specs.Rows.{answered};
 ghost use Rattle.gb_goal.specs.Scope.{Declarations};
@@ -13,12 +14,13 @@ ghost use Rattle.gb_typing.specs.Scopes.{context_of, IsTypedScope};
 ghost use Rattle.gb_typing.specs.Sequents.{of_sequent, IsTypedSequent};
 ghost use Rattle.gb_mods.specs.Exclusions as excluding;
 ghost use Rattle.gb_trans.specs.Effects as effect;
-ghost use Rattle.gb_trans.specs.Swap.{apart, exchange, moved, swap_row, swapped};
+ghost use Rattle.gb_trans.specs.Swap.{apart, exchange, moved, swap_row, swapped, unless_crossing};
 
 use crate::effects::{crossing, effects_of};
 use crate::transformed::with_body;
 use gb_core::copy::copy_var;
 use gb_core::refusal::{Refused, Why};
+use gb_core::var::Var;
 use gb_goal::goal::goal_of;
 use gb_goal::scope::Scope;
 use gb_goal::sequent::{Sequent, Sequents};
@@ -26,6 +28,7 @@ use gb_mods::exclusions::exclusions;
 use gb_prog::one_body::one_body;
 use gb_prog::subgoals::{no_shape, refusal};
 use gb_steps::step::{Acts, Passing};
+use gb_terms::share::share_instrs;
 use gb_terms::term::{Instr, Instrs};
 use sqlite_items::Items;
 use std::alloc::{AllocError, Global};
@@ -34,10 +37,9 @@ use std::alloc::{AllocError, Global};
 pub fn with_statements(alloc: Global, found: Instrs, list: &[Instr]) -> Result<Instrs, AllocError>
     ensures { IfOk result (λ made. made ≡ found ++ list.now) }
 {
+    let more = share_instrs(alloc, list)?;
     let mut all = found;
-    for statement in list {
-        all.push(statement.share(alloc)?)?;
-    }
+    all.append(more)?;
     Ok(all)
 }
 
@@ -57,6 +59,16 @@ fn exchanged(
     with_statements(alloc, all, rest)
 }
 
+/// Refuses the variable that was found, if any.
+pub fn unless_crossing(alloc: Global, found: Option<&Var>) -> Result<(), Refused>
+    ensures { Answers (unless_crossing (option_copied found.entry)) result }
+{
+    match found {
+        Some(x) => Err(refusal(Why::SideCondition(copy_var(alloc, x)?))),
+        None => Ok(()),
+    }
+}
+
 /// Refuses two parts of which one writes a variable with which another one clashes that the other part reads or writes, with the least
 /// such variable.
 fn check_apart(
@@ -67,17 +79,14 @@ fn check_apart(
 ) -> Result<(), Refused>
     ensures { Answers (apart (excluding.exclusions scope.now) (effect.effects_of scope.now first.now) (effect.effects_of scope.now second.now)) result }
 {
+    let excluded = exclusions(alloc, scope)?;
     let Some(one) = effects_of(alloc, scope, first)? else {
         return Err(no_shape());
     };
     let Some(other) = effects_of(alloc, scope, second)? else {
         return Err(no_shape());
     };
-    let excluded = exclusions(alloc, scope)?;
-    match crossing(excluded.as_slice(), &one, &other) {
-        Some(x) => Err(refusal(Why::SideCondition(copy_var(alloc, x)?))),
-        None => Ok(()),
-    }
+    unless_crossing(alloc, crossing(excluded.as_slice(), &one, &other))
 }
 
 /// The body in which two parts, of so many statements behind others, have exchanged their places.

@@ -19,14 +19,15 @@ use gb_steps::step::Acts;
 use gb_terms::term::{Instr, Instrs};
 use sqlite_items::Items;
 use std::alloc::{AllocError, Global};
+use std::slice::from_ref;
 
 /// The body in which a statement stands in front of the one at a place.
-fn in_front(alloc: Global, at: &Placed<'_>, first: Instr) -> Result<Instrs, AllocError>
-    ensures { IfOk result (λ made. made ≡ (let k = placed_seen at.now in k.before ++ first ∷ k.statement ∷ k.rest)) }
+fn in_front(alloc: Global, at: &Placed<'_>, first: &Instr) -> Result<Instrs, AllocError>
+    ensures { IfOk result (λ made. made ≡ (let k = placed_seen at.now in k.before ++ first.now ∷ k.statement ∷ k.rest)) }
 {
-    let mut list = with_statements(alloc, Items::new(alloc), at.before)?;
-    list.push(first)?;
-    list.push(at.statement.share(alloc)?)?;
+    let list = with_statements(alloc, Items::new(alloc), at.before)?;
+    let list = with_statements(alloc, list, from_ref(first))?;
+    let list = with_statements(alloc, list, from_ref(at.statement))?;
     with_statements(alloc, list, at.rest)
 }
 
@@ -40,7 +41,7 @@ fn unrolled(alloc: Global, at: u128, list: &[Instr]) -> Result<Instrs, Refused>
     match found.statement {
         Instr::While(guard, _, body) => {
             let first = turn(alloc, guard, body)?;
-            Ok(in_front(alloc, &found, first)?)
+            Ok(in_front(alloc, &found, &first)?)
         }
         _ => Err(no_shape()),
     }

@@ -56,11 +56,11 @@ fn nth_option(alloc: Global, inner: &Ty, at: u64) -> Result<Values, AllocError>
     requires exact { size_of inner.now + 1 < 2 ^ 63 }
     ensures { IfOk result (λ vs. vs ≡ option_at (numbering inner.now) at) }
 {
-    let mut out = Items::new(alloc);
-    if at > 0 {
-        out.push(nth_below(alloc, inner, at - 1)?)?;
+    if at == 0 {
+        return Ok(Items::new(alloc));
     }
-    Ok(out)
+    let value = nth_below(alloc, inner, at - 1)?;
+    Ok(Items::from_vec(vec![in alloc; value]?))
 }
 
 /// The entries of the map at a place, the first key slowest.
@@ -101,12 +101,12 @@ fn nth_entry(
     requires values { choices (numbering value.now) < 2 ^ 63 }
     ensures { IfOk result (λ es. es ≡ entry_at (numbering key.now) (numbering value.now) place choice) }
 {
-    let mut out = Items::new(alloc);
-    if choice > 0 {
-        let mut pair = Items::new(alloc);
-        pair.push(nth_below(alloc, key, place)?)?;
-        pair.push(nth_below(alloc, value, choice - 1)?)?;
-        out.push(Value::of_parts(alloc, pair)?)?;
+    if choice == 0 {
+        return Ok(Items::new(alloc));
     }
-    Ok(out)
+    let key = nth_below(alloc, key, place)?;
+    let value = nth_below(alloc, value, choice - 1)?;
+    let pair = Items::from_vec(vec![in alloc; key, value]?);
+    let entry = Value::of_parts(alloc, pair)?;
+    Ok(Items::from_vec(vec![in alloc; entry]?))
 }

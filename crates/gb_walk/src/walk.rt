@@ -7,9 +7,9 @@ ghost use Rattle.gb_walk.specs.Change.{or_given, found, put_or, read_changed, ar
 
 use crate::change::{Change, Changes, found, found_side, seen_by_args, seen_by_last, without_own};
 use crate::rebuild::{
-    cmd_or_kept, equiv_head, finished_cmd, finished_terms, glob_head, head_now, hoare_head,
-    phoare_head, pr_head, put_instr, put_term, read_head, rebuilt_assign, rebuilt_body,
-    rebuilt_call, rebuilt_if, rebuilt_sample, rebuilt_term, rebuilt_while, term_or_kept,
+    equiv_head, finished_cmd, finished_terms, glob_head, head_now, hoare_head, phoare_head,
+    pr_head, put_instr, put_term, read_head, rebuilt_assign, rebuilt_body, rebuilt_call,
+    rebuilt_if, rebuilt_sample, rebuilt_term, rebuilt_while, term_or_kept,
 };
 use gb_core::{Shared, SharedItems};
 use gb_terms::op::Read;
@@ -158,14 +158,6 @@ fn made_subject(
             Ok(rebuilt_body(body))
         }
     }
-}
-
-/// The statements with the changes made in their terms. What they write stays.
-pub fn changed_cmd(alloc: Global, cmd: &Cmd, changes: &[Change]) -> Result<Cmd, AllocError>
-    ensures { IfOk result (λ made. made ≡ cmd_changed cmd.now changes.now) }
-{
-    let made = made_cmd(alloc, cmd, changes)?;
-    cmd_or_kept(made, cmd)
 }
 
 #[cycle(walk)]

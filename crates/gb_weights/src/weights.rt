@@ -29,14 +29,14 @@ use gb_script::tree::Node;
 use gb_terms::make;
 use gb_terms::term::{DistTerm, Head, Pair, Pairs, Term};
 use sqlite_items::Items;
-use std::alloc::{AllocError, Global};
+use std::alloc::Global;
 
 /// The least sum of weights that is out of range.
 const LIMIT: u128 = 1 << 127;
 
 /// The constant of a type with this number.
-fn numbered(alloc: Global, ty: Ty, number: u64) -> Result<Constant, AllocError>
-    ensures { IfOk result (λ made. made ≡ record { ty = ty; number = number }) }
+fn numbered(alloc: Global, ty: Ty, number: u64) -> Result<Constant, Refused>
+    ensures { Answers (given (record { ty = ty; number = number })) result }
 {
     let ty = Shared::new(alloc, ty)?;
     Ok(Constant { ty, number })
@@ -47,9 +47,9 @@ fn built_in_constant(alloc: Global, known: Known, place: Place) -> Result<Consta
     ensures { Answers (built_in_constant known place) result }
 {
     match known {
-        Known::True => numbered(alloc, Ty::Bool, 1).map_err(Refused::from),
-        Known::False => numbered(alloc, Ty::Bool, 0).map_err(Refused::from),
-        Known::Unit => numbered(alloc, Ty::Unit, 0).map_err(Refused::from),
+        Known::True => numbered(alloc, Ty::Bool, 1),
+        Known::False => numbered(alloc, Ty::Bool, 0),
+        Known::Unit => numbered(alloc, Ty::Unit, 0),
         _ => Err(argument(place)),
     }
 }
@@ -196,10 +196,10 @@ fn weighed(
 {
     match parts {
         [name, digits] => {
-            let constant = new_constant(alloc, at, bound, ty, pairs, &name.text, name.place)?;
+            let number = new_constant(alloc, at, bound, ty, pairs, &name.text, name.place)?.number;
             let weight = weight_in(pairs, sum, digits)?;
             Ok(Pair {
-                value: Value::Num(constant.number),
+                value: Value::Num(number),
                 weight,
             })
         }
@@ -280,7 +280,7 @@ fn stated(alloc: Global, outcomes: Shared<Ty>, pairs: Pairs) -> Result<DistTerm,
 {
     let pairs = SharedItems::new(alloc, pairs)?;
     let ty = Shared::new(alloc, Ty::Distr(outcomes))?;
-    make::leaf(alloc, Head::Weights(pairs), ty).map_err(Refused::from)
+    Ok(make::leaf(alloc, Head::Weights(pairs), ty)?)
 }
 
 /// The typed tree of `weights [A : 1; B : 3]`.

@@ -1,5 +1,4 @@
-use Rattle.std.proofs.Common.{ap, ◌∙◌, [], ◌∷◌}
-use Rattle.gb_goal.specs.Goal.{form_of}
+use Rattle.std.proofs.Common.{◌∙◌, [], ◌∷◌}
 use Rattle.gb_goal.specs.Goal.Code.{body}
 use Rattle.gb_goal.specs.Goal.Goal.{equiv}
 use Rattle.gb_call.specs.Outcomes.{globals_seen}
@@ -19,6 +18,5 @@ returns c =
     let last = equiv (body k.call.before) (body l.call.before) z.pre.now (before_calls k (globals_seen left.globals.now) l (globals_seen right.globals.now) z.kept.now z.post.now) in
     goals_behind z.goal.now (each_keep_both z.scope.now z.kept.now k.called.oracles l.called.oracles) (last ∷ []) c.in_ok-goals.goals c.in_ok-one_goal.field-0 c.append.new.self c.in_ok-goals.ensures
     (c.in_ok-one_goal.ensures
-    ∙ one_concluded z.goal.now c.in_ok-last.last last
-    (c.in_ok-last.ensures ∙ ap (λ f. form_of (equiv (body k.call.before) (body l.call.before) z.pre.now f)) c.in_ok-before.ensures))
+    ∙ one_concluded z.goal.now c.in_ok-last.last last c.in_ok-last.ensures)
     c.in_ok-append.ensures

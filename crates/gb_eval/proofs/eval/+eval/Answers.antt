@@ -1,20 +1,23 @@
-use Rattle.std.proofs.Common.{true, false, ◌∷◌, map, reverse, refl, sym, ap, ◌∙◌, arith, rules}
+use Rattle.std.proofs.Common.{◌≡◌, true, false, ◌∷◌, map, reverse, refl, sym, ap, ◌∙◌, arith, rules}
 use Rattle.gb_eval.proofs.Fuel.{opens}
 use Rattle.gb_terms.specs.declared.term.Head.TheVariants as head
 use Rattle.gb_core.specs.declared.value.Value.TheVariants.{Num}
 use Rattle.gb_meaning.specs.Distributions.{stated}
-use Rattle.gb_eval.specs.Findings.{◌>>=◌, fraction_in, shown, shown_table, Stops}
+use Rattle.gb_eval.specs.Findings.{◌>>=◌, argument_of, fraction_in, shown, shown_table, value_in, Stops}
 use Rattle.gb_eval.specs.Findings.Finding.{value}
 use Rattle.gb_eval.specs.Findings.Comes.{found}
 use Rattle.gb_eval.specs.declared.env.Bound.TheVariants as to
 use Rattle.gb_types.specs.Numbering.{parts_of}
 use Rattle.gb_types.specs.Types.{card_of, value_at}
 use Rattle.gb_labels.specs.Held.{with_values}
+use Rattle.gb_dist.specs.Places.{outcomes}
+use Rattle.gb_dist.specs.Rows.{entries}
 use Rattle.gb_eval.specs.Eval.{environment, eval, image_of, in_memories, narrowed, next_sum, part_of, quantified, summed, truth_at, value_bound, value_of, weighed, weighted}
 use Rattle.gb_eval.proofs.Layers.{eval_at, eval_other}
 use Rattle.gb_eval.proofs.Environments.{environment_is}
 use Rattle.gb_eval.proofs.Opened.{open_comes, closed_comes}
-use Rattle.gb_eval.proofs.Stops.{gives_as, stops_as}
+use Rattle.gb_eval.proofs.Stops.{gives_as, leads_on, passes, stops_as}
+use Rattle.gb_eval.proofs.Collected.{one_more, one_stops}
 use Rattle.gb_eval.proofs.Places.{beq_same, in_memories_decided, in_memories_stops, mapped_by, measured_by, operated_many, operated_three, quantified_decided, quantified_stops, restricted_by, summed_stops, summed_whole}
 use Rattle.gb_eval.proofs.eval.+eval.Goals as goal
 
@@ -223,3 +226,62 @@ in_memories-returns-then-branch-deciding-clause-found t c =
     ∙ c.in_ok-truth_in_memory.ensures.found ∙ ap found (beq_same _ _ c.if-branch-deciding.true))
     c.loop-at-test.true
     ∙ ap found (sym c.of_truth.ensures)
+
+pub tuple-loop-arg-preserved : goal.tuple-loop-arg-preserved
+tuple-loop-arg-preserved t c =
+    let v = c.loop-arg.invariant in
+    let e : (eval (environment c.args.env.now) c.arg-item.result (reverse c.args.bound.now) >>= value_in) ≡ found c.in_ok-value_in.field-0 = ap (λ b. eval (environment c.args.env.now) c.arg-item.result (reverse b) >>= value_in) (sym v.bound) ∙ leads_on (eval (environment c.args.env.now) c.arg-item.result (reverse c.loop-arg.bound)) value_in (shown c.in_ok-part.part) c.in_ok-part.ensures.found ∙ c.in_ok-value_in.ensures in
+    record {
+      bound = c.in_ok-part.ensures.bound ∙ v.bound;
+      parts = one_more (λ l. map (λ x. x.comes (reverse c.args.bound.now) >>= value_in) (map (part_of (environment c.args.env.now)) l)) c.args.args.now c.loop-arg.arg-index c.arg-item.result (eval (environment c.args.env.now) c.arg-item.result (reverse c.args.bound.now) >>= value_in) (λ l. refl) c.loop-arg-test.true c.arg-item.is c.loop-arg.parts c.push.new.self c.in_ok-value_in.field-0 _ v.parts e c.in_ok-push.ensures.ok;
+    }
+
+pub arguments-loop-arg-preserved : goal.arguments-loop-arg-preserved
+arguments-loop-arg-preserved t c =
+    let v = c.loop-arg.invariant in
+    let e : (eval (environment c.args.env.now) c.arg-item.result (reverse c.args.bound.now) >>= argument_of) ≡ found c.in_ok-argument_of.field-0 = ap (λ b. eval (environment c.args.env.now) c.arg-item.result (reverse b) >>= argument_of) (sym v.bound) ∙ leads_on (eval (environment c.args.env.now) c.arg-item.result (reverse c.loop-arg.bound)) argument_of (shown c.in_ok-answer.answer) c.in_ok-answer.ensures.found ∙ c.in_ok-argument_of.ensures in
+    record {
+      bound = c.in_ok-answer.ensures.bound ∙ v.bound;
+      parts = one_more (λ l. map (λ x. x.comes (reverse c.args.bound.now) >>= argument_of) (map (part_of (environment c.args.env.now)) l)) c.args.args.now c.loop-arg.arg-index c.arg-item.result (eval (environment c.args.env.now) c.arg-item.result (reverse c.args.bound.now) >>= argument_of) (λ l. refl) c.loop-arg-test.true c.arg-item.is c.loop-arg.out c.push.new.self c.in_ok-argument_of.field-0 _ v.parts e c.in_ok-push.ensures.ok;
+    }
+
+pub arguments-returns-in_err-answer-clause-found : goal.arguments-returns-in_err-answer-clause-found
+arguments-returns-in_err-answer-clause-found t c =
+    let v = c.loop-arg.invariant in
+    let s = c.in_err-answer.field-0.0 in
+    let w : Stops (eval (environment c.args.env.now) c.arg-item.result (reverse c.args.bound.now) >>= argument_of) s = stops_as _ _ s (ap (λ b. eval (environment c.args.env.now) c.arg-item.result (reverse b) >>= argument_of) (sym v.bound)) (passes (eval (environment c.args.env.now) c.arg-item.result (reverse c.loop-arg.bound)) argument_of s c.in_err-answer.ensures.found) in
+    let h = (one_stops (λ l. map (λ x. x.comes (reverse c.args.bound.now) >>= argument_of) (map (part_of (environment c.args.env.now)) l)) c.args.args.now c.loop-arg.arg-index c.arg-item.result (eval (environment c.args.env.now) c.arg-item.result (reverse c.args.bound.now) >>= argument_of) (λ l. refl) c.loop-arg-test.true c.arg-item.is c.loop-arg.out s _ v.parts w) in
+    search (rules, h)
+
+pub arguments-returns-in_err-argument_of-clause-found : goal.arguments-returns-in_err-argument_of-clause-found
+arguments-returns-in_err-argument_of-clause-found t c =
+    let v = c.loop-arg.invariant in
+    let s = c.in_err-argument_of.field-0.0 in
+    let w : Stops (eval (environment c.args.env.now) c.arg-item.result (reverse c.args.bound.now) >>= argument_of) s = stops_as _ _ s (ap (λ b. eval (environment c.args.env.now) c.arg-item.result (reverse b) >>= argument_of) (sym v.bound) ∙ leads_on (eval (environment c.args.env.now) c.arg-item.result (reverse c.loop-arg.bound)) argument_of (shown c.in_ok-answer.answer) c.in_ok-answer.ensures.found) c.in_err-argument_of.ensures in
+    let h = (one_stops (λ l. map (λ x. x.comes (reverse c.args.bound.now) >>= argument_of) (map (part_of (environment c.args.env.now)) l)) c.args.args.now c.loop-arg.arg-index c.arg-item.result (eval (environment c.args.env.now) c.arg-item.result (reverse c.args.bound.now) >>= argument_of) (λ l. refl) c.loop-arg-test.true c.arg-item.is c.loop-arg.out s _ v.parts w) in
+    search (rules, h)
+
+pub images-loop-row-preserved : goal.images-loop-row-preserved
+images-loop-row-preserved t c =
+    let v = c.loop-row.invariant in
+    let e : (eval (environment c.args.env.now) c.args.body.now (to.Value c.row-item.result.value ∷ (reverse c.args.bound.now)) >>= value_in) ≡ found c.in_ok-value_in.field-0 = (λ i. eval (environment c.args.env.now) c.args.body.now (to.Value (sym c.in_ok-value.ensures i) ∷ reverse (sym v.bound i)) >>= value_in) ∙ leads_on (eval (environment c.args.env.now) c.args.body.now (to.Value c.in_ok-value.value ∷ reverse c.loop-row.bound)) value_in (shown c.in_ok-image.image) c.in_ok-image.ensures.found ∙ c.in_ok-value_in.ensures in
+    record {
+      bound = c.in_ok-image.ensures.bound ∙ v.bound;
+      images = one_more (λ l. map (λ v. eval (environment c.args.env.now) c.args.body.now (to.Value v ∷ (reverse c.args.bound.now)) >>= value_in) (outcomes (entries l))) c.args.rows.now c.loop-row.row-index c.row-item.result (eval (environment c.args.env.now) c.args.body.now (to.Value c.row-item.result.value ∷ (reverse c.args.bound.now)) >>= value_in) (λ l. refl) c.loop-row-test.true c.row-item.is c.loop-row.out c.push.new.self c.in_ok-value_in.field-0 _ v.images e c.in_ok-push.ensures.ok;
+    }
+
+pub images-returns-in_err-image-clause-found : goal.images-returns-in_err-image-clause-found
+images-returns-in_err-image-clause-found t c =
+    let v = c.loop-row.invariant in
+    let s = c.in_err-image.field-0.0 in
+    let w : Stops (eval (environment c.args.env.now) c.args.body.now (to.Value c.row-item.result.value ∷ (reverse c.args.bound.now)) >>= value_in) s = stops_as _ _ s (λ i. eval (environment c.args.env.now) c.args.body.now (to.Value (sym c.in_ok-value.ensures i) ∷ reverse (sym v.bound i)) >>= value_in) (passes (eval (environment c.args.env.now) c.args.body.now (to.Value c.in_ok-value.value ∷ reverse c.loop-row.bound)) value_in s c.in_err-image.ensures.found) in
+    let h = (one_stops (λ l. map (λ v. eval (environment c.args.env.now) c.args.body.now (to.Value v ∷ (reverse c.args.bound.now)) >>= value_in) (outcomes (entries l))) c.args.rows.now c.loop-row.row-index c.row-item.result (eval (environment c.args.env.now) c.args.body.now (to.Value c.row-item.result.value ∷ (reverse c.args.bound.now)) >>= value_in) (λ l. refl) c.loop-row-test.true c.row-item.is c.loop-row.out s _ v.images w) in
+    search (rules, h)
+
+pub images-returns-in_err-value_in-clause-found : goal.images-returns-in_err-value_in-clause-found
+images-returns-in_err-value_in-clause-found t c =
+    let v = c.loop-row.invariant in
+    let s = c.in_err-value_in.field-0.0 in
+    let w : Stops (eval (environment c.args.env.now) c.args.body.now (to.Value c.row-item.result.value ∷ (reverse c.args.bound.now)) >>= value_in) s = stops_as _ _ s ((λ i. eval (environment c.args.env.now) c.args.body.now (to.Value (sym c.in_ok-value.ensures i) ∷ reverse (sym v.bound i)) >>= value_in) ∙ leads_on (eval (environment c.args.env.now) c.args.body.now (to.Value c.in_ok-value.value ∷ reverse c.loop-row.bound)) value_in (shown c.in_ok-image.image) c.in_ok-image.ensures.found) c.in_err-value_in.ensures in
+    let h = (one_stops (λ l. map (λ v. eval (environment c.args.env.now) c.args.body.now (to.Value v ∷ (reverse c.args.bound.now)) >>= value_in) (outcomes (entries l))) c.args.rows.now c.loop-row.row-index c.row-item.result (eval (environment c.args.env.now) c.args.body.now (to.Value c.row-item.result.value ∷ (reverse c.args.bound.now)) >>= value_in) (λ l. refl) c.loop-row-test.true c.row-item.is c.loop-row.out s _ v.images w) in
+    search (rules, h)

@@ -1,12 +1,14 @@
 use Rattle.std.proofs.Common.{rules, ◌≡◌, ◌+◌, ◌<◌, ◌≤◌, min, length, take, drop, ap, sym, ◌∙◌, subst}
 use Rattle.std.proofs.lemmas.List.{append-nil}
 use Rattle.gb_core.specs.declared.refusal.Why.TheVariants.{Syntax}
+use Rattle.gb_core.specs.declared.ty.Ty.TheVariants.{Map}
 use Rattle.gb_script.specs.Tree.{head_of, text_of, place_of}
 use Rattle.gb_goal.specs.Answers.Answer.{given}
-use Rattle.gb_names.specs.Types.{all_given, declared_type, spelled, spelling, with_spellings}
+use Rattle.gb_names.specs.Types.{all_given, all_spelled, bracketed_type, declared_type, spelled, spelling, tuple_of, with_spellings}
 use Rattle.gb_names.specs.Names.{path}
-use Rattle.gb_names.proofs.Answers.{answers_as, fails_as, refuses_as}
-use Rattle.gb_names.proofs.Spellings.{answers, behind, behind_none, behind_one, behind_refused, first_answers, next_part, no_part, no_type, spelled_is, words_are}
+use Rattle.gb_names.proofs.Answers.{answers_as, fails_as, leads_on, passes, refuses_as}
+use Rattle.gb_names.proofs.Parts.{one}
+use Rattle.gb_names.proofs.Spellings.{answers, behind, behind_none, behind_one, behind_refused, first_answers, map_is, map_of, next_part, no_part, no_type, option_is, option_of, spelled_is, words_are}
 use Rattle.gb_names.proofs.types.+types.Goals as goal
 
 pub first_parts-loop-i-init : goal.first_parts-loop-i-init
@@ -100,3 +102,71 @@ spelling-returns-in_default t c =
     (no_type c.args.head c.args.text.now (with_spellings c.args.parts.now) c.args.own c.args.scope.now c.args.place
     d.not-PlainType d.not-IntType d.not-BitsType d.not-BracketedType d.not-MapType d.not-ProductType d.not-OptionType d.not-Name d.not-Path)
     c.not_built.ensures
+
+pub map_type-returns-in_err-key-in-len2 : goal.map_type-returns-in_err-key-in-len2
+map_type-returns-in_err-key-in-len2 t c =
+    let ds = c.args.scope.now in
+    let p = c.args.place in
+    let a = c.key-item.result in
+    let b = c.value-item.result in
+    let fails =
+    fails_as _ _ _ (map_is ds p c.args.parts.now a b c.in-len2.len_at_least c.in-len2.len_below c.key-item.is c.value-item.is)
+    (passes (spelled a ds p) (map_of ds p b) _ c.in_err-key-in-len2.ensures) in
+    search rules
+
+pub map_type-returns-in_err-value-in-len2 : goal.map_type-returns-in_err-value-in-len2
+map_type-returns-in_err-value-in-len2 t c =
+    let ds = c.args.scope.now in
+    let p = c.args.place in
+    let a = c.key-item.result in
+    let b = c.value-item.result in
+    let key = c.in_ok-key-in-len2.key in
+    let fails =
+    fails_as _ _ _
+    (map_is ds p c.args.parts.now a b c.in-len2.len_at_least c.in-len2.len_below c.key-item.is c.value-item.is
+    ∙ leads_on (spelled a ds p) (map_of ds p b) key c.in_ok-key-in-len2.ensures)
+    (passes (spelled b ds p) (λ u. given (Map key u)) _ c.in_err-value-in-len2.ensures) in
+    search rules
+
+pub map_type-returns-in_ok-value-in-len2 : goal.map_type-returns-in_ok-value-in-len2
+map_type-returns-in_ok-value-in-len2 t c =
+    let ds = c.args.scope.now in
+    let p = c.args.place in
+    let a = c.key-item.result in
+    let b = c.value-item.result in
+    let key = c.in_ok-key-in-len2.key in
+    map_is ds p c.args.parts.now a b c.in-len2.len_at_least c.in-len2.len_below c.key-item.is c.value-item.is
+    ∙ leads_on (spelled a ds p) (map_of ds p b) key c.in_ok-key-in-len2.ensures
+    ∙ leads_on (spelled b ds p) (λ u. given (Map key u)) c.in_ok-value-in-len2.value c.in_ok-value-in-len2.ensures
+
+pub option_type-returns-in_err-shared-in-len1 : goal.option_type-returns-in_err-shared-in-len1
+option_type-returns-in_err-shared-in-len1 t c =
+    let ds = c.args.scope.now in
+    let p = c.args.place in
+    let a = c.inner-item.result in
+    let fails =
+    fails_as _ _ _ (option_is ds p c.args.parts.now a c.in-len1.len_at_least c.in-len1.len_below c.inner-item.is)
+    (passes (spelled a ds p) (option_of ds p) _ c.in_err-shared-in-len1.ensures) in
+    search rules
+
+pub option_type-returns-in_ok-shared-in-len1 : goal.option_type-returns-in_ok-shared-in-len1
+option_type-returns-in_ok-shared-in-len1 t c =
+    let ds = c.args.scope.now in
+    let p = c.args.place in
+    let a = c.inner-item.result in
+    option_is ds p c.args.parts.now a c.in-len1.len_at_least c.in-len1.len_below c.inner-item.is
+    ∙ leads_on (spelled a ds p) (option_of ds p) c.in_ok-shared-in-len1.field-0 c.in_ok-shared-in-len1.ensures
+
+pub bracketed_type-returns-in-len1 : goal.bracketed_type-returns-in-len1
+bracketed_type-returns-in-len1 t c =
+    let ds = c.args.scope.now in
+    let p = c.args.place in
+    answers_as _ _ c.spelled.result
+    (ap (λ us. bracketed_type (with_spellings us) ds p) (one c.args.parts.now c.inner-item.result c.in-len1.len_at_least c.in-len1.len_below c.inner-item.is))
+    c.spelled.ensures
+
+pub tuple_type-returns-in_err-types : goal.tuple_type-returns-in_err-types
+tuple_type-returns-in_err-types t c =
+    let us = with_spellings c.args.parts.now in
+    let fails = passes (all_spelled (take 8 us) c.args.scope.now c.args.place) (λ ts. tuple_of ts (drop 8 us)) _ c.in_err-types.ensures in
+    search rules

@@ -18,8 +18,8 @@ invariant-put_body-loop-i l = record {
       ≡ each (λ i. word (codes " ") ▸ instr_text i (place l.at l.initial.page.bound)) l.c.list l.initial.page.text;
 }
 
-abbrev pub invariant-put_forms-loop-t : goal.invariant-put_forms-loop-t
-invariant-put_forms-loop-t l = record {
+abbrev pub invariant-put_given-loop-t : goal.invariant-put_given-loop-t
+invariant-put_given-loop-t l = record {
   same : l.page.bound ≡ l.initial.page.bound;
   text : each (further (place l.at l.initial.page.bound)) (all_shown (drop l.t-index l.rest)) l.page.text
       ≡ each (further (place l.at l.initial.page.bound)) (all_shown l.rest) l.initial.page.text;

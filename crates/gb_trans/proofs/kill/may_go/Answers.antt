@@ -1,5 +1,5 @@
 -- A statement that may go writes nothing of what is read behind it, and loses no weight.
-use Rattle.std.proofs.Common.{rules, ◌≡◌, [], ◌∷◌, subst, sym, ap, ◌∙◌}
+use Rattle.std.proofs.Common.{◌≡◌, [], ◌∷◌, subst, sym, ap, ◌∙◌}
 use Rattle.std.specs.Prelude.{Result}
 use Rattle.gb_core.specs.declared.refusal.Refused.{Refused}
 use Rattle.gb_goal.specs.Answers.{Answer, ◌>>=◌, Answers}
@@ -21,8 +21,7 @@ returns c =
     let ds = c.args.scope.now in
     let o = one_seen c.args.one.now in
     let k = placed_seen c.args.at.now in
-    let one : c.as_slice.result.now ≡ k.statement ∷ [] = search rules in
-    let two : c.as_slice-2.result.now ≡ k.statement ∷ [] = search rules in
+    let alone : c.from_ref-alone.result.now ≡ k.statement ∷ [] = c.from_ref-alone.ensures.value in
     leads (unread (exclusions ds) (read_behind ds k.rest o.side o.post) (effects_of ds (k.statement ∷ []))) (full (first_loss ds (k.statement ∷ []))) c.full.result
-    (ap (λ is. unread (exclusions ds) (read_behind ds k.rest o.side o.post) (effects_of ds is)) (sym one) ∙ c.in_ok-check_behind.ensures)
-    (subst (λ l. Answers (full l) c.full.result) (c.in_ok-lost.ensures ∙ ap (first_loss ds) two) c.full.ensures)
+    (ap (λ is. unread (exclusions ds) (read_behind ds k.rest o.side o.post) (effects_of ds is)) (sym alone) ∙ c.in_ok-check_behind.ensures)
+    (subst (λ l. Answers (full l) c.full.result) (c.in_ok-lost.ensures ∙ ap (first_loss ds) alone) c.full.ensures)
