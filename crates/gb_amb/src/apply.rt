@@ -32,7 +32,7 @@ fn by_cases(alloc: Global, form: &Form, place: Place, goal: &Sequent) -> Result<
     if judges_bodies(&goal.conclusion) {
         return Err(no_shape(place));
     }
-    cases(alloc, form, goal).map_err(Refused::from)
+    Ok(cases(alloc, form, goal)?)
 }
 
 /// A form to be shown, and the goal in which it is a hypothesis.
@@ -41,7 +41,8 @@ fn have(alloc: Global, name: &Name, form: &Form, goal: &Sequent) -> Result<Seque
 {
     let shown = form.share()?;
     let mut goals = goals::one(alloc, goal, shown)?;
-    goals.push(goals::assuming(alloc, goal, name, form)?)?;
+    let wider = goals::assuming(alloc, goal, name, form)?;
+    goals.push(wider)?;
     Ok(goals)
 }
 
@@ -68,7 +69,7 @@ pub fn apply(
     match rule {
         AmbientRule::Assumption => assumption(alloc, place, goal),
         AmbientRule::Case(form) => by_cases(alloc, form, place, goal),
-        AmbientRule::Have(name, form) => have(alloc, name, form, goal).map_err(Refused::from),
+        AmbientRule::Have(name, form) => Ok(have(alloc, name, form, goal)?),
         AmbientRule::Introduce(_) | AmbientRule::IntroduceMemory(_) => {
             introduced(alloc, rule, place, goal)
         }

@@ -221,7 +221,7 @@ pub fn trivial(alloc: Global, goal: &Sequent) -> Result<Sequents, Refused>
         return Ok(Items::new(alloc));
     }
     let same = goal.share()?;
-    alone(alloc, same).map_err(Refused::from)
+    Ok(alone(alloc, same)?)
 }
 
 /// No goals, where nothing is to be shown.

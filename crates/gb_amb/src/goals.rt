@@ -38,9 +38,8 @@ pub fn alone(alloc: Global, goal: Sequent) -> Result<Sequents, AllocError>
 pub fn one(alloc: Global, goal: &Sequent, conclusion: Form) -> Result<Sequents, AllocError>
     ensures { IfOk result (λ goals. goals ≡ concluding goal.now conclusion ∷ []) }
 {
-    let mut goals = Items::new(alloc);
-    goals.push(goal.with_conclusion(conclusion)?)?;
-    Ok(goals)
+    let goal = goal.with_conclusion(conclusion)?;
+    alone(alloc, goal)
 }
 
 /// A hypothesis with one owner more.
@@ -63,7 +62,8 @@ fn with_hypothesis(
 {
     let mut more: Items<Hyp> = Items::new(alloc);
     for hyp in hyps {
-        more.push(shared(alloc, hyp)?)?;
+        let hyp = shared(alloc, hyp)?;
+        more.push(hyp)?;
     }
     let name = name.copy(alloc)?;
     let form = form.share()?;

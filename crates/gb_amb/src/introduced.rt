@@ -94,7 +94,8 @@ fn memories_with(alloc: Global, list: &[Name], name: &Name) -> Result<SharedItem
     ensures { IfOk result (λ made. made ≡ list.now ++ name.now ∷ []) }
 {
     let mut more = copy_names(alloc, list)?;
-    more.push(name.copy(alloc)?)?;
+    let name = name.copy(alloc)?;
+    more.push(name)?;
     SharedItems::new(alloc, more)
 }
 
@@ -146,18 +147,18 @@ fn by_head(
                 return Err(no_shape(place));
             }
             let wider = with_variable(alloc, name, ty, body, goal)?;
-            alone(alloc, wider).map_err(Refused::from)
+            Ok(alone(alloc, wider)?)
         }
         (AmbientRule::Introduce(name), Head::Builtin(Op::Implies), [premise, rest]) => {
             let wider = with_premise(alloc, name, premise, rest, goal)?;
-            alone(alloc, wider).map_err(Refused::from)
+            Ok(alone(alloc, wider)?)
         }
         (AmbientRule::IntroduceMemory(name), Head::AllMemory, [body]) => {
             if goal_quantifies_modules(goal) {
                 return Err(no_shape(place));
             }
             let wider = with_memory(alloc, name, body, goal)?;
-            alone(alloc, wider).map_err(Refused::from)
+            Ok(alone(alloc, wider)?)
         }
         _ => Err(no_shape(place)),
     }

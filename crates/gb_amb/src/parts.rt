@@ -120,24 +120,24 @@ fn by_premise(
     ensures { Answers (each_concluding goal.now (by_premise rule.now place head.now args.now conclusion.now)) result }
 {
     match (rule, head, args) {
-        (AmbientRule::Discard, _, _) => { alone(alloc, goal, conclusion).map_err(Refused::from) }
+        (AmbientRule::Discard, _, _) => Ok(alone(alloc, goal, conclusion)?),
         (AmbientRule::Unpack, Head::Builtin(Op::And), [a, b]) => {
-            under_both(alloc, goal, a, b, conclusion).map_err(Refused::from)
+            Ok(under_both(alloc, goal, a, b, conclusion)?)
         }
         (AmbientRule::Unpack, Head::Some(ty), [a]) => {
             if quantifies_modules(conclusion) {
                 return Err(no_shape(place));
             }
-            for_each_value(alloc, goal, ty, a, conclusion).map_err(Refused::from)
+            Ok(for_each_value(alloc, goal, ty, a, conclusion)?)
         }
         (AmbientRule::Unpack, Head::SomeMemory, [a]) => {
             if quantifies_modules(conclusion) {
                 return Err(no_shape(place));
             }
-            for_each_memory(alloc, goal, a, conclusion).map_err(Refused::from)
+            Ok(for_each_memory(alloc, goal, a, conclusion)?)
         }
         (AmbientRule::Branch, Head::Builtin(Op::Or), [a, b]) => {
-            implications(alloc, goal, a, b, conclusion, conclusion).map_err(Refused::from)
+            Ok(implications(alloc, goal, a, b, conclusion, conclusion)?)
         }
         _ => Err(no_shape(place)),
     }
@@ -186,9 +186,7 @@ fn bounded(
     ensures { Answers (each_concluding goal.now (bounded_at place head.now args.now bound.now)) result }
 {
     match (head, args) {
-        (Head::Builtin(Op::Abs), [real]) => {
-            both_signs(alloc, goal, real, bound).map_err(Refused::from)
-        }
+        (Head::Builtin(Op::Abs), [real]) => Ok(both_signs(alloc, goal, real, bound)?),
         _ => Err(no_shape(place)),
     }
 }
@@ -204,21 +202,15 @@ fn by_head(
     ensures { Answers (each_concluding goal.now (parts_at rule.now place head.now args.now)) result }
 {
     match (rule, head, args) {
-        (AmbientRule::Split, Head::Builtin(Op::And), [a, b]) => {
-            both(alloc, goal, a, b).map_err(Refused::from)
-        }
+        (AmbientRule::Split, Head::Builtin(Op::And), [a, b]) => Ok(both(alloc, goal, a, b)?),
         (AmbientRule::Split, Head::Builtin(Op::Iff), [a, b]) => {
-            implications(alloc, goal, a, b, b, a).map_err(Refused::from)
+            Ok(implications(alloc, goal, a, b, b, a)?)
         }
         (AmbientRule::Split, Head::Builtin(Op::AtMost), [a, b]) => {
             bounded(alloc, place, goal, a.head.get(), a.args.as_slice(), b)
         }
-        (AmbientRule::Left, Head::Builtin(Op::Or), [a, _]) => {
-            alone(alloc, goal, a).map_err(Refused::from)
-        }
-        (AmbientRule::Right, Head::Builtin(Op::Or), [_, b]) => {
-            alone(alloc, goal, b).map_err(Refused::from)
-        }
+        (AmbientRule::Left, Head::Builtin(Op::Or), [a, _]) => Ok(alone(alloc, goal, a)?),
+        (AmbientRule::Right, Head::Builtin(Op::Or), [_, b]) => Ok(alone(alloc, goal, b)?),
         _ => Err(no_shape(place)),
     }
 }

@@ -44,7 +44,12 @@ fn quantify_modules(list: &[Term]) -> bool
 fn in_hypotheses(hyps: &[Hyp]) -> bool
     ensures { result ≡ list_any (λ h. quantifies_modules h.form) hyps.now }
 {
-    hyps.iter().any(|h| quantifies_modules(&h.form))
+    for h in hyps {
+        if quantifies_modules(&h.form) {
+            return true;
+        }
+    }
+    false
 }
 
 /// Whether a quantifier over modules stands in the conclusion or in a hypothesis.

@@ -21,7 +21,9 @@ fn with_goal(goals: Sequents, goal: &Sequent, conclusion: &Form) -> Result<Seque
     ensures { IfOk result (λ made. made ≡ goals ++ concluding goal.now conclusion.now ∷ []) }
 {
     let mut goals = goals;
-    goals.push(goal.with_conclusion(conclusion.share()?)?)?;
+    let conclusion = conclusion.share()?;
+    let last = goal.with_conclusion(conclusion)?;
+    goals.push(last)?;
     Ok(goals)
 }
 

@@ -26,7 +26,7 @@ pub fn witnessed(
         (Head::Some(_), [body]) => {
             let change = Change::OfBound(0, witness.share()?);
             let conclusion = changed_once(alloc, body, change)?;
-            one(alloc, goal, conclusion).map_err(Refused::from)
+            Ok(one(alloc, goal, conclusion)?)
         }
         _ => Err(no_shape(place)),
     }
@@ -45,7 +45,7 @@ pub fn memory_witnessed(
         (Head::SomeMemory, [body]) => {
             let change = Change::ToSide(Side::Bound(0), Side::Memory(memory));
             let conclusion = changed_once(alloc, body, change)?;
-            one(alloc, goal, conclusion).map_err(Refused::from)
+            Ok(one(alloc, goal, conclusion)?)
         }
         _ => Err(no_shape(place)),
     }

@@ -251,11 +251,13 @@ fn answer(
 {
     match session.enter(alloc, line, at) {
         Ok(()) => session.screen(alloc),
-        Err(Refused::Script { why, place }) => {
-            let line = refused_line(alloc, INPUT, &why, place)?;
-            Ok(line.into_bytes())
-        }
-        Err(Refused::NoMemory | Refused::ReadFault) => Err(AllocError),
+        Err(refused) => match refused.into_script() {
+            Some((why, place)) => {
+                let line = refused_line(alloc, INPUT, &why, place)?;
+                Ok(line.into_bytes())
+            }
+            None => Err(AllocError),
+        },
     }
 }
 

@@ -116,7 +116,7 @@ fn one_branch(alloc: Global, goal: &Sequent, one: &OneBody<'_>) -> Result<Sequen
     };
     let yes = chosen(alloc, one, &branch, true)?;
     let no = chosen(alloc, one, &branch, false)?;
-    two_goals(alloc, goal, yes, no).map_err(Refused::from)
+    Ok(two_goals(alloc, goal, yes, no)?)
 }
 
 /// The tests of two branches are equal from each two related memories.
@@ -185,7 +185,7 @@ fn two_branches(alloc: Global, goal: &Sequent, acts: Acts, seen: Goal) -> Result
         (Acts::All, Goal::Equiv(Code::Body(left), Code::Body(right), pre, post)) => {
             match (first_branch(left), first_branch(right)) {
                 (Some(left), Some(right)) => {
-                    both_branches(alloc, goal, &left, &right, pre, post).map_err(Refused::from)
+                    Ok(both_branches(alloc, goal, &left, &right, pre, post)?)
                 }
                 _ => Err(no_shape()),
             }

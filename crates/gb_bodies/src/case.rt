@@ -56,9 +56,9 @@ pub fn case(alloc: Global, goal: &Sequent, form: &Form) -> Result<Sequents, Refu
 {
     let seen = goal_of(&goal.conclusion);
     match one_body(Acts::All, seen) {
-        Some(one) => case_one(alloc, goal, &one, form).map_err(Refused::from),
+        Some(one) => Ok(case_one(alloc, goal, &one, form)?),
         None => match one_body(Acts::Left, seen) {
-            Some(one) => case_one(alloc, goal, &one, form).map_err(Refused::from),
+            Some(one) => Ok(case_one(alloc, goal, &one, form)?),
             None => Err(no_shape()),
         },
     }

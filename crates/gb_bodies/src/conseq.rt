@@ -159,7 +159,7 @@ fn subgoals(
 {
     match (old, &new.bound) {
         (Judged::Hoare(subject, pre, post), None) => {
-            of_one(alloc, goal, new, subject, pre, post).map_err(Refused::from)
+            Ok(of_one(alloc, goal, new, subject, pre, post)?)
         }
         (Judged::Phoare(subject, rel, pre, post, bound), _) => {
             let old = Bounded {
@@ -168,10 +168,10 @@ fn subgoals(
                 post,
                 bound,
             };
-            of_chance(alloc, goal, new, subject, &old).map_err(Refused::from)
+            Ok(of_chance(alloc, goal, new, subject, &old)?)
         }
         (Judged::Equiv(left, right, pre, post), None) => {
-            of_two(alloc, goal, new, left, right, pre, post).map_err(Refused::from)
+            Ok(of_two(alloc, goal, new, left, right, pre, post)?)
         }
         _ => Err(no_shape()),
     }

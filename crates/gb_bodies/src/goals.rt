@@ -58,6 +58,7 @@ pub fn three_goals(
         ∷ record goal.now { conclusion = second } ∷ record goal.now { conclusion = third } ∷ []) }
 {
     let mut goals = two_goals(alloc, goal, first, second)?;
-    goals.push(goal.with_conclusion(third)?)?;
+    let last = goal.with_conclusion(third)?;
+    goals.push(last)?;
     Ok(goals)
 }

@@ -116,7 +116,7 @@ fn of_one(
         return Err(no_shape());
     };
     let conclusion = one_entered(alloc, proc.get(), pre, post)?;
-    one_goal(alloc, goal, conclusion).map_err(Refused::from)
+    Ok(one_goal(alloc, goal, conclusion)?)
 }
 
 /// The same with a probability.
@@ -135,7 +135,7 @@ fn of_chance(
         return Err(no_shape());
     };
     let conclusion = chance_entered(alloc, proc.get(), rel, pre, post, bound)?;
-    one_goal(alloc, goal, conclusion).map_err(Refused::from)
+    Ok(one_goal(alloc, goal, conclusion)?)
 }
 
 /// The same of two procedures.
@@ -153,7 +153,7 @@ fn of_two(
         return Err(no_shape());
     };
     let conclusion = two_entered(alloc, left.get(), right.get(), pre, post)?;
-    one_goal(alloc, goal, conclusion).map_err(Refused::from)
+    Ok(one_goal(alloc, goal, conclusion)?)
 }
 
 /// The subgoals of `proc`: from concrete procedures to their bodies. Parameters are locals, and the postcondition speaks of the terms

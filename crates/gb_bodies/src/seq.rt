@@ -51,7 +51,7 @@ fn one_cut(
     let (first, rest) = list.split_at(count as usize);
     let first = of_one(alloc, first, pre, between)?;
     let rest = of_one(alloc, rest, between, post)?;
-    two_goals(alloc, goal, first, rest).map_err(Refused::from)
+    Ok(two_goals(alloc, goal, first, rest)?)
 }
 
 /// The goals of the parts of two bodies.
@@ -74,7 +74,7 @@ fn two_cut(
     let (first, rest) = cut_bodies(left, right, here as usize, there as usize);
     let first = of_two(alloc, first.left, first.right, pre, between.share()?)?;
     let rest = of_two(alloc, rest.left, rest.right, between, post.share()?)?;
-    two_goals(alloc, goal, first, rest).map_err(Refused::from)
+    Ok(two_goals(alloc, goal, first, rest)?)
 }
 
 /// The subgoals of `seq`: what is said between the parts of each body holds after the first, and the rest leads from there to the

@@ -28,7 +28,7 @@ fn of_one(alloc: Global, goal: &Sequent, pre: &Form, post: &Form) -> Result<Sequ
     ensures { Answers (each_concluding goal.now (skip_row (hoare (body []) pre.now post.now))) result }
 {
     let conclusion = leads(alloc, pre, post)?;
-    one_goal(alloc, goal, conclusion).map_err(Refused::from)
+    Ok(one_goal(alloc, goal, conclusion)?)
 }
 
 /// The bound is met from where the precondition holds.
@@ -58,7 +58,7 @@ fn of_chance(
     ensures { Answers (each_concluding goal.now (skip_row (phoare (body []) rel pre.now post.now bound.now))) result }
 {
     let conclusion = met(alloc, rel, pre, post, bound)?;
-    one_goal(alloc, goal, conclusion).map_err(Refused::from)
+    Ok(one_goal(alloc, goal, conclusion)?)
 }
 
 /// What is left of two empty bodies.
@@ -66,7 +66,7 @@ fn of_two(alloc: Global, goal: &Sequent, pre: &Form, post: &Form) -> Result<Sequ
     ensures { Answers (each_concluding goal.now (skip_row (equiv (body []) (body []) pre.now post.now))) result }
 {
     let conclusion = pair_leads(alloc, pre, post)?;
-    one_goal(alloc, goal, conclusion).map_err(Refused::from)
+    Ok(one_goal(alloc, goal, conclusion)?)
 }
 
 /// The subgoals of `skip`: where the bodies of a judgment are empty, its precondition implies its postcondition, in every

@@ -93,7 +93,7 @@ fn before_assign(
         let target = copy_var(alloc, target)?;
         return Err(refusal(Why::SideCondition(target)));
     }
-    assigned_form(alloc, side, targets, value, post).map_err(Refused::from)
+    Ok(assigned_form(alloc, side, targets, value, post)?)
 }
 
 /// What has to hold before a statement without chance, so that a form holds after it.
@@ -154,7 +154,7 @@ fn wp_one(
     let pre = one.pre.share()?;
     let list = shared_body(alloc, front)?;
     let conclusion = filled(alloc, one.around, list, pre, post)?;
-    one_goal(alloc, goal, conclusion).map_err(Refused::from)
+    Ok(one_goal(alloc, goal, conclusion)?)
 }
 
 /// The subgoal on two bodies.
@@ -174,7 +174,7 @@ fn wp_both(
             let post = before_all(alloc, exclusions, Side::Left, left_ending, post)?;
             let post = before_all(alloc, exclusions, Side::Right, right_ending, &post)?;
             let conclusion = of_two(alloc, left, right, pre, post)?;
-            one_goal(alloc, goal, conclusion).map_err(Refused::from)
+            Ok(one_goal(alloc, goal, conclusion)?)
         }
         _ => Err(no_shape()),
     }

@@ -40,7 +40,8 @@ pub fn besides(
     let mut out = first;
     for y in second {
         let number = operated(sign, Frac::of_whole(0), y.coefficient)?;
-        out.push(with_coefficient(&y.term, number)?)?;
+        let summand = with_coefficient(&y.term, number)?;
+        out.push(summand)?;
     }
     Ok(out)
 }

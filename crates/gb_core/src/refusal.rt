@@ -1,7 +1,7 @@
 // Refusals.
 
 ghost use Rattle.std.specs.Prelude.{◌≡◌};
-ghost use Rattle.gb_core.specs.Refusal.{code_of};
+ghost use Rattle.gb_core.specs.Refusal.{code_of, is_script, moved, placed, script_of};
 
 use crate::name::Name;
 use crate::place::Place;
@@ -10,11 +10,58 @@ use crate::var::Var;
 use std::alloc::{AllocError, AllocFailed};
 
 /// Why a call gives no answer.
-#[derive(Drop)]
 pub enum Refused {
     NoMemory,
     ReadFault,
     Script { why: Why, place: Place },
+}
+
+impl Drop for Refused {
+    fn drop(self) {
+        match self {
+            Refused::NoMemory | Refused::ReadFault => {}
+            Refused::Script { why, place: _ } => drop(why),
+        }
+    }
+}
+
+impl Refused {
+    /// Whether a script is refused, and neither memory ran out nor a read failed.
+    pub fn is_script(&self) -> bool
+        ensures { result ≡ is_script self.now }
+    {
+        matches!(self, Refused::Script { .. })
+    }
+
+    /// Why a script is refused, and where. None where memory ran out or a read failed.
+    pub fn into_script(self) -> Option<(Why, Place)>
+        ensures { result ≡ script_of self }
+    {
+        match self {
+            Refused::Script { why, place } => Some((why, place)),
+            Refused::NoMemory | Refused::ReadFault => None,
+        }
+    }
+
+    /// This refusal at another place.
+    pub fn moved(self, to: Place) -> Refused
+        ensures { result ≡ moved self to }
+    {
+        match self {
+            Refused::Script { why, place: _ } => Refused::Script { why, place: to },
+            other => other,
+        }
+    }
+
+    /// This refusal, or, where it has no place of its own, one at this place. Lines count from 1, so no place has line 0.
+    pub fn placed(self, at: Place) -> Refused
+        ensures { result ≡ placed self at }
+    {
+        match self {
+            Refused::Script { why, place } if place.line == 0 => Refused::Script { why, place: at },
+            other => other,
+        }
+    }
 }
 
 /// Why a script is refused, with what the refusal tells of it.

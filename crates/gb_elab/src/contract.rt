@@ -129,7 +129,7 @@ pub fn lossless(
         [procedure] => {
             let named = one_procedure(alloc, at, bound, procedure, place)?;
             let procedure = named.reference.share()?;
-            ends(alloc, procedure).map_err(Refused::from)
+            Ok(ends(alloc, procedure)?)
         }
         _ => Err(not_built(place)),
     }

@@ -50,7 +50,7 @@ fn equated(alloc: Global, left: Term, right: Term, place: Place) -> Result<Form,
     ensures { Answers (if ty_eq (type_of_term right) (type_of_term left) then given (applied Op.Equal (left ∷ right ∷ []) Ty.Bool) else refused TypeMismatch place) result }
 {
     if same_types(right.ty.get(), left.ty.get()) {
-        make::equality(alloc, left, right).map_err(Refused::from)
+        Ok(make::equality(alloc, left, right)?)
     } else {
         Err(mismatch(place))
     }
@@ -111,7 +111,7 @@ pub fn equalities(
     }
     truth(want, place)?;
     match list {
-        [] => make::boolean(alloc, true).map_err(Refused::from),
+        [] => Ok(make::boolean(alloc, true)?),
         [x, rest @ ..] => {
             let first = equation(alloc, at, bound, x)?;
             with_equalities(alloc, at, bound, first, rest)

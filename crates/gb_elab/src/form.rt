@@ -695,7 +695,7 @@ fn over_body(
     let count = bindings.len();
     let inner = within(alloc, bindings, bound)?;
     let body = typed(alloc, at, inner.as_slice(), body, Some(&Ty::Bool))?;
-    over_all(alloc, quantifier, &inner.as_slice()[..count], body).map_err(Refused::from)
+    Ok(over_all(alloc, quantifier, &inner.as_slice()[..count], body)?)
 }
 
 /// An equivalence of two procedures.
@@ -775,7 +775,7 @@ fn with_postcondition(
     ensures { Answers (elaborated post.now (after (environment at.now) (seen_type both.now.left.ty) (seen_type both.now.right.ty)) bound.now (Some Ty.Bool) and_then λ post. given (equivalent both.now.left.reference both.now.right.reference pre post)) result }
 {
     let post = postcondition(alloc, at, bound, post, both)?;
-    equiv(alloc, both, pre, post).map_err(Refused::from)
+    Ok(equiv(alloc, both, pre, post)?)
 }
 
 /// A judgment of one procedure that needs no bound.
@@ -792,7 +792,7 @@ fn hoare(
 {
     judgment(at, want, place)?;
     let contract = contract(alloc, at, bound, parts, place)?;
-    always(alloc, contract).map_err(Refused::from)
+    Ok(always(alloc, contract)?)
 }
 
 /// Refuses a judgment without the bound that it needs.
@@ -841,7 +841,7 @@ fn bounded_by(
 {
     let around = Setting::ambient(at.scope, at.sequent).reading(Memories::None);
     let limit = typed(alloc, &around, bound, limit, Some(&Ty::Real))?;
-    with_chance(alloc, contract, relation, limit).map_err(Refused::from)
+    Ok(with_chance(alloc, contract, relation, limit)?)
 }
 
 /// A judgment of one procedure behind which its bound stands.
@@ -992,7 +992,7 @@ fn from_memory(
     let memory = memory_at(alloc, at, bound, &memory.text, memory.place)?;
     let event = after_one(alloc, at, bound, event, named)?;
     let procedure = named.reference.share()?;
-    chance(alloc, procedure, memory, arguments, event).map_err(Refused::from)
+    Ok(chance(alloc, procedure, memory, arguments, event)?)
 }
 
 /// The arguments that a call, or the list in it, has for these parameters. The call has this place.
@@ -1072,7 +1072,8 @@ fn arguments(
         let [param, more @ ..] = rest else {
             return Err(mismatch(part.place));
         };
-        done.push(typed(alloc, at, bound, part, Some(param.ty.get()))?)?;
+        let argument = typed(alloc, at, bound, part, Some(param.ty.get()))?;
+        done.push(argument)?;
         rest = more;
     }
     Ok(done)
@@ -1237,7 +1238,8 @@ fn value_of(
     ensures { Answers (value_of name.now ty.now (body.now, meant body.now) (environment at.now) bound.now (option_copied want.entry)) result }
 {
     let mut bindings = Items::new(alloc);
-    bindings.push(Binding::value(alloc, name, ty)?)?;
+    let variable = Binding::value(alloc, name, ty)?;
+    bindings.push(variable)?;
     let inner = within(alloc, bindings, bound)?;
     typed(alloc, at, inner.as_slice(), body, want)
 }

@@ -83,7 +83,7 @@ fn agrees(
     };
     let first = global_variable(alloc, left, global)?;
     let second = global_variable(alloc, right, again)?;
-    make::equality(alloc, first, second).map_err(Refused::from)
+    Ok(make::equality(alloc, first, second)?)
 }
 
 /// All that is an abstract module's own, as one value, read in a memory.
@@ -168,7 +168,7 @@ fn agreement_on(
 {
     match agreements(alloc, scope, left, right, list)? {
         Some(form) => Ok(form),
-        None => make::boolean(alloc, true).map_err(Refused::from),
+        None => Ok(make::boolean(alloc, true)?),
     }
 }
 
@@ -388,7 +388,7 @@ fn as_value(
 {
     match module {
         Mexp::Name(name) if scope.abstract_module(name).is_some() => {
-            whole_value(alloc, side, name).map_err(Refused::from)
+            Ok(whole_value(alloc, side, name)?)
         }
         _ => Err(argument(place)),
     }

@@ -226,7 +226,8 @@ fn all_excluded(
 {
     let mut names = Items::new(alloc);
     for tree in trees {
-        names.push(excluded(alloc, scope, binds, tree)?)?;
+        let name = excluded(alloc, scope, binds, tree)?;
+        names.push(name)?;
     }
     Ok(names)
 }
@@ -318,8 +319,10 @@ fn bind_values(
     take_name(alloc, &mut bound.names, first)?;
     take_names(alloc, &mut bound.names, more)?;
     let ty = type_of(alloc, scope, ty)?;
-    bound.values.push(variable(alloc, &first.text, &ty)?)?;
-    bound.values.append(of_type(alloc, more, &ty)?)?;
+    let first = variable(alloc, &first.text, &ty)?;
+    bound.values.push(first)?;
+    let more = of_type(alloc, more, &ty)?;
+    bound.values.append(more)?;
     Ok(())
 }
 
@@ -330,7 +333,8 @@ fn bind_memory(alloc: Global, bound: &mut Bound, name: &Node) -> Result<(), Refu
     ensures modules { OnOk result (bound.new.modules ≡ bound.old.modules) }
 {
     take_name(alloc, &mut bound.names, name)?;
-    bound.memories.push(name.text.copy(alloc)?)?;
+    let name = name.text.copy(alloc)?;
+    bound.memories.push(name)?;
     Ok(())
 }
 

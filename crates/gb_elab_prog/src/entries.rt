@@ -80,5 +80,5 @@ fn operator(alloc: Global, scope: &Scope, name: &Node, body: &Node) -> Result<En
 {
     refuse_declared(alloc, scope, name)?;
     let entry = operator_entry(alloc, scope, body.head, body.parts.as_slice(), body.place)?;
-    only(alloc, name, entry).map_err(Refused::from)
+    Ok(only(alloc, name, entry)?)
 }

@@ -92,10 +92,12 @@ fn member_names(alloc: Global, module: &Module) -> Result<Names, AllocError>
 {
     let mut names = Items::new(alloc);
     for x in module.globals.as_slice() {
-        names.push(x.name.copy(alloc)?)?;
+        let name = x.name.copy(alloc)?;
+        names.push(name)?;
     }
     for p in module.procs.as_slice() {
-        names.push(p.get().name.copy(alloc)?)?;
+        let name = p.get().name.copy(alloc)?;
+        names.push(name)?;
     }
     Ok(names)
 }
@@ -137,6 +139,7 @@ fn add_procedure(
     ensures name { OnOk result («module».new.name ≡ «module».old.name) }
 {
     let p = procedure(alloc, scope, around, module, head, parts, place)?;
-    module.procs.push(Shared::new(alloc, p)?)?;
+    let p = Shared::new(alloc, p)?;
+    module.procs.push(p)?;
     Ok(())
 }

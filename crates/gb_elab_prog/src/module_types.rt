@@ -68,7 +68,7 @@ pub fn module_type_entries(
     let params = parameters(alloc, scope, parameter_trees)?;
     let signatures = signatures(alloc, scope, params.as_slice(), signature_trees)?;
     let entry = Boxed::new(alloc, Entry::ModuleType(ModuleType { params, signatures }))?;
-    only(alloc, name, entry).map_err(Refused::from)
+    Ok(only(alloc, name, entry)?)
 }
 
 /// Refuses parameters of a module type that a parameter has.
@@ -127,7 +127,8 @@ fn declare_parameter(
                 refuse_parameter(alloc, scope, None, params.as_slice(), name)?;
                 let asked = module_type_at(alloc, scope, ty)?;
                 refuse_parameters(asked.params.as_slice(), ty.place)?;
-                params.push(param(alloc, name, ty)?)?;
+                let param = param(alloc, name, ty)?;
+                params.push(param)?;
                 Ok(())
             }
             _ => Err(not_built(place)),

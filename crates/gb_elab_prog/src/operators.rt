@@ -85,7 +85,7 @@ fn defined(
     let bound = all_parameters(alloc, scope, groups)?;
     let params = types_of(alloc, bound.values.as_slice())?;
     let body = written_body(alloc, scope, bound.values.as_slice(), to, form)?;
-    Boxed::new(alloc, Entry::Operator(Operator { params, body })).map_err(Refused::from)
+    Ok(Boxed::new(alloc, Entry::Operator(Operator { params, body }))?)
 }
 
 /// The parameters of all brackets.
@@ -146,7 +146,8 @@ fn types_of(alloc: Global, params: &[TypedName]) -> Result<SharedItems<Shared<Ty
 {
     let mut types = Items::new(alloc);
     for x in params {
-        types.push(x.ty.share()?)?;
+        let ty = x.ty.share()?;
+        types.push(ty)?;
     }
     SharedItems::new(alloc, types)
 }
@@ -224,11 +225,8 @@ fn undefined(
         [to] => {
             let params = all_types(alloc, scope, types)?;
             let result = type_or_number(alloc, scope, to)?;
-            Boxed::new(
-                alloc,
-                Entry::AbstractOperator(OperatorType { params, result }),
-            )
-            .map_err(Refused::from)
+            let entry = Entry::AbstractOperator(OperatorType { params, result });
+            Ok(Boxed::new(alloc, entry)?)
         }
         _ => Err(not_built(place)),
     }
@@ -244,7 +242,8 @@ fn all_types(
 {
     let mut all = Items::new(alloc);
     for ty in types {
-        all.push(type_of(alloc, scope, ty)?)?;
+        let ty = type_of(alloc, scope, ty)?;
+        all.push(ty)?;
     }
-    SharedItems::new(alloc, all).map_err(Refused::from)
+    Ok(SharedItems::new(alloc, all)?)
 }

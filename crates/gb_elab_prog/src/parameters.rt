@@ -34,7 +34,8 @@ fn add_typed(
     let params = module.params.as_slice();
     refuse_parameter(alloc, scope, Some(&module.name), params, name)?;
     module_type_at(alloc, scope, ty)?;
-    module.params.push(param(alloc, name, ty)?)?;
+    let param = param(alloc, name, ty)?;
+    module.params.push(param)?;
     Ok(())
 }
 

@@ -167,7 +167,7 @@ pub fn result_type(alloc: Global, scope: &Scope, written: &[Node]) -> Result<Sha
     ensures { Answers (result_type scope.now written.now) result }
 {
     match written {
-        [] => Shared::new(alloc, Ty::Unit).map_err(Refused::from),
+        [] => Ok(Shared::new(alloc, Ty::Unit)?),
         [ty, ..] => type_of(alloc, scope, ty),
     }
 }
@@ -255,7 +255,8 @@ fn declare_formal(
             [name, ty] => {
                 refuse_local(alloc, params.as_slice(), name)?;
                 let ty = type_of(alloc, scope, ty)?;
-                params.push(variable(alloc, &name.text, &ty)?)?;
+                let param = variable(alloc, &name.text, &ty)?;
+                params.push(param)?;
                 Ok(())
             }
             _ => Err(not_built(place)),

@@ -61,13 +61,13 @@ pub fn type_entries(
     match head {
         Head::AbstractType => {
             let entry = Boxed::new(alloc, Entry::AbstractType)?;
-            only(alloc, name, entry).map_err(Refused::from)
+            Ok(only(alloc, name, entry)?)
         }
         Head::TypeAlias => match parts {
             [ty] => {
                 let ty = type_of(alloc, scope, ty)?;
                 let entry = Boxed::new(alloc, Entry::Type(ty))?;
-                only(alloc, name, entry).map_err(Refused::from)
+                Ok(only(alloc, name, entry)?)
             }
             _ => Err(not_built(place)),
         },

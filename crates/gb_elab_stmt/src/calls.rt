@@ -60,7 +60,8 @@ fn arguments(
         let [param, more @ ..] = rest else {
             return Err(mismatch(arg.place));
         };
-        made.push(typed(alloc, at, &[], arg, Some(param.ty.get()))?)?;
+        let arg = typed(alloc, at, &[], arg, Some(param.ty.get()))?;
+        made.push(arg)?;
         rest = more;
     }
     Ok(made)

@@ -95,7 +95,8 @@ pub fn type_of_all(alloc: Global, targets: &[Target]) -> Result<Shared<Ty>, Allo
         _ => {
             let mut types = Items::new(alloc);
             for t in targets {
-                types.push(copy_ty(alloc, t.ty.get())?)?;
+                let ty = copy_ty(alloc, t.ty.get())?;
+                types.push(ty)?;
             }
             let types = SharedItems::new(alloc, types)?;
             Shared::new(alloc, Ty::Tuple(types))
@@ -109,7 +110,8 @@ pub fn variables_of(alloc: Global, targets: &[Target]) -> Result<SharedItems<Var
 {
     let mut vars = Items::new(alloc);
     for t in targets {
-        vars.push(copy_var(alloc, &t.var)?)?;
+        let var = copy_var(alloc, &t.var)?;
+        vars.push(var)?;
     }
     SharedItems::new(alloc, vars)
 }

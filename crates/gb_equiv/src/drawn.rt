@@ -50,8 +50,9 @@ pub fn clashing(alloc: Global, var: &Var, place: Place) -> Refused
 pub fn alone(alloc: Global, goal: &Sequent, conclusion: Form) -> Result<Sequents, AllocError>
     ensures { IfOk result (λ goals. goals ≡ record goal.now { conclusion = conclusion } ∷ []) }
 {
+    let goal = goal.with_conclusion(conclusion)?;
     let mut goals = Items::new(alloc);
-    goals.push(goal.with_conclusion(conclusion)?)?;
+    goals.push(goal)?;
     Ok(goals)
 }
 
@@ -90,5 +91,5 @@ pub fn drawn_rule(
         return Err(clashing(alloc, sampling.target, place));
     }
     let conclusion = without_sampling(alloc, &sampling, pre, post)?;
-    alone(alloc, goal, conclusion).map_err(Refused::from)
+    Ok(alone(alloc, goal, conclusion)?)
 }

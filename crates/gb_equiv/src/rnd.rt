@@ -185,7 +185,7 @@ fn coupled_rule(
         return Err(clashing(alloc, var, place));
     }
     let conclusion = without_samplings(alloc, &left, &right, maps, of.pre, of.post)?;
-    alone(alloc, goal, conclusion).map_err(Refused::from)
+    Ok(alone(alloc, goal, conclusion)?)
 }
 
 /// On an equivalence of two bodies that end with a sampling: both leave, and the postcondition becomes that of the

@@ -21,7 +21,7 @@ pub fn symmetry(alloc: Global, goal: &Sequent, place: Place) -> Result<Sequents,
     match (goal.conclusion.head.get(), goal.conclusion.args.as_slice()) {
         (Head::Equiv(left, right), [pre, post]) => {
             let conclusion = turned(alloc, left, right, pre, post)?;
-            alone(alloc, goal, conclusion).map_err(Refused::from)
+            Ok(alone(alloc, goal, conclusion)?)
         }
         _ => Err(no_such_shape(place)),
     }

@@ -1,5 +1,5 @@
 -- Terms from their heads and the lists of their arguments.
-use Rattle.std.proofs.Common.{◌≡◌, ◌⊎◌, inl, inr, ℕ, ℤ, Bool, ◌&&◌, List, [], ◌∷◌, map, refl, sym, ap, ◌∙◌}
+use Rattle.std.proofs.Common.{◌≡◌, ◌⊎◌, inl, inr, ℕ, ℤ, Bool, false, ◌&&◌, List, [], ◌∷◌, map, refl, sym, ap, ◌∙◌}
 use Rattle.std.specs.List.{list_all}
 use Rattle.gb_terms.specs.declared.term.Term.{Term, Term', Row_of-Term, end_of-Term, more_of-Term, end_of-Head, more_of-Head, items-the_row-Term, items_shown-the_row-Term-0}
 use Rattle.gb_terms.specs.declared.term.Head.{Head}
@@ -118,6 +118,34 @@ module _ (ops : Operators) (t : Term) (h : Head) (xs : List Term) (ty : Ty) (p :
   pub total_first : (h ≡ head.Map) ⊎ (h ≡ head.Restrict) → total_of ops t ≡ of_first (map (total_of ops) xs)
   total_first (inl e) = total_at head.Map e
   total_first (inr e) = total_at head.Restrict e
+
+-- heads that evaluation doesn't know
+pub known_other : (ks : Name → Bool) (h : Head) (t : Ty) (us : List Ty) → ((v : Value) → h ≡ head.Lit v → ⊥) → ((n : ℤ) → h ≡ head.Whole n → ⊥) → ((r : Read) → h ≡ head.Read r → ⊥) → ((i : ℕ) → h ≡ head.Bound i → ⊥) → ((o : Op) → h ≡ head.Builtin o → ⊥) → ((m : Name) → h ≡ head.User m → ⊥) → ((u : Ty) → h ≡ head.All u → ⊥) → ((u : Ty) → h ≡ head.Some u → ⊥) → (h ≡ head.Mu → ⊥) → ((n : ℕ) → h ≡ head.Sum n → ⊥) → (h ≡ head.Restrict → ⊥) → (h ≡ head.Map → ⊥) → ((ps : List Pair) → h ≡ head.Weights ps → ⊥) → (h ≡ head.AllMemory → ⊥) → (h ≡ head.SomeMemory → ⊥) → false ≡ is_head_known ks h t us
+known_other ks (head.Lit v) t us l w r b o k a s m n c d z every some = absurd (l v refl)
+known_other ks (head.Whole y) t us l w r b o k a s m n c d z every some = absurd (w y refl)
+known_other ks (head.Read x) t us l w r b o k a s m n c d z every some = absurd (r x refl)
+known_other ks (head.Bound i) t us l w r b o k a s m n c d z every some = absurd (b i refl)
+known_other ks (head.Builtin x) t us l w r b o k a s m n c d z every some = absurd (o x refl)
+known_other ks (head.User y) t us l w r b o k a s m n c d z every some = absurd (k y refl)
+known_other ks (head.All u) t us l w r b o k a s m n c d z every some = absurd (a u refl)
+known_other ks (head.Some u) t us l w r b o k a s m n c d z every some = absurd (s u refl)
+known_other ks head.Mu t us l w r b o k a s m n c d z every some = absurd (m refl)
+known_other ks (head.Sum y) t us l w r b o k a s m n c d z every some = absurd (n y refl)
+known_other ks head.Restrict t us l w r b o k a s m n c d z every some = absurd (c refl)
+known_other ks head.Map t us l w r b o k a s m n c d z every some = absurd (d refl)
+known_other ks (head.Weights ps) t us l w r b o k a s m n c d z every some = absurd (z ps refl)
+known_other ks head.AllMemory t us l w r b o k a s m n c d z every some = absurd (every refl)
+known_other ks head.SomeMemory t us l w r b o k a s m n c d z every some = absurd (some refl)
+known_other ks _ t us l w r b o k a s m n c d z every some = refl
+
+-- operators that give no distribution
+pub operator_other : (o : Op) (t : Ty) (ks : List (Comes ℕ)) → (o ≡ op.Coin → ⊥) → (o ≡ op.Uniform → ⊥) → (o ≡ op.Dunit → ⊥) → (o ≡ op.Product → ⊥) → (o ≡ op.If → ⊥) → operator_total o t ks ≡ unknown
+operator_other op.Coin t ks c u d p i = absurd (c refl)
+operator_other op.Uniform t ks c u d p i = absurd (u refl)
+operator_other op.Dunit t ks c u d p i = absurd (d refl)
+operator_other op.Product t ks c u d p i = absurd (p refl)
+operator_other op.If t ks c u d p i = absurd (i refl)
+operator_other _ t ks c u d p i = refl
 
 outcome_is : (t : Ty) → outcome_type (ty.Distr t) ≡ t
 outcome_is t = ap outcome_type (distribution_is t)

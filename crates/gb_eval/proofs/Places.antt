@@ -15,6 +15,7 @@ use Rattle.gb_core.specs.declared.ty.Ty.{Ty}
 use Rattle.gb_core.specs.declared.value.Card.TheVariants.{Exact}
 use Rattle.gb_types.specs.Types.{card_of, value_at}
 use Rattle.gb_terms.specs.declared.op.Op.{Op}
+use Rattle.gb_terms.specs.declared.op.Op.TheVariants as op
 use Rattle.gb_dist.specs.declared.row.Row.{Row}
 use Rattle.gb_dist.specs.Rows.{entries}
 use Rattle.gb_dist.specs.Places.{outcomes}
@@ -181,6 +182,19 @@ module _ {X : Type 0} (f : X → Part) (xs : List X) (a b : X) (bound : List Bou
   pub restricted_by : restricted (map f xs) bound ≡ narrowed (f b) d bound
   restricted_by = ap (λ l. restricted (map f l) bound) (two_of xs a b h k p q) ∙ leads_on (table_under (f a) bound) (λ r. narrowed (f b) r bound) d e
 
+-- three arguments
+pub three_of : {X : Type 0} (xs : List X) (a b c : X) → 3 ≤ length xs → length xs < 4 → a ≡ get_or xs 0 a → b ≡ get_or xs 1 b → c ≡ get_or xs 2 c → xs ≡ a ∷ b ∷ c ∷ []
+three_of [] a b c h k e f g = absurd (omega arith)
+three_of (x ∷ []) a b c h k e f g = absurd (omega arith)
+three_of (x ∷ y ∷ []) a b c h k e f g = absurd (omega arith)
+three_of (x ∷ y ∷ z ∷ []) a b c h k e f g = λ i. sym e i ∷ sym f i ∷ sym g i ∷ []
+three_of (x ∷ y ∷ z ∷ w ∷ xs) a b c h k e f g = absurd (omega arith)
+
+pub three_other : (o : Op) (t : Ty) (xs : List Part) (bound : List Bound) → (o ≡ op.If → ⊥) → (o ≡ op.Set → ⊥) → at_three o t xs bound ≡ unknown
+three_other op.If t xs bound h k = absurd (h refl)
+three_other op.Set t xs bound h k = absurd (k refl)
+three_other _ t xs bound h k = refl
+
 -- quantifiers
 
 pub next_decides : (d : Bool) (f : ℕ → Comes Bool) (n : ℕ) → next_truth d f (not d) n ≡ f n
@@ -203,6 +217,16 @@ beq_same true true h = refl
 beq_same true false h = absurd (false≢true h)
 beq_same false true h = absurd (false≢true h)
 beq_same false false h = refl
+
+beq_other : (a b : Bool) → beq a b ≡ false → a ≡ not b
+beq_other true true h = absurd (false≢true (sym h))
+beq_other true false h = refl
+beq_other false true h = refl
+beq_other false false h = absurd (false≢true (sym h))
+
+-- one place more that doesn't decide
+pub truths_on : (d : Bool) (f : ℕ → Comes Bool) (n : ℕ) (b : Bool) → over (next_truth d f) (not d) n ≡ found (not d) → f n ≡ found b → beq b d ≡ false → over (next_truth d f) (not d) (n + 1) ≡ found (not d)
+truths_on d f n b h e q = over_next (next_truth d f) (not d) n (not d) h ∙ next_decides d f n ∙ e ∙ ap found (beq_other b d q)
 
 -- the places of a quantifier, where those before one don't decide
 module _ (d : Bool) (ty : Ty) (n at : ℕ) (x : Part) (xs : List Part) (bound : List Bound) (e : xs ≡ x ∷ []) (c : card_of ty ≡ Exact n) where

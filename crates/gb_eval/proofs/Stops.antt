@@ -1,5 +1,5 @@
 -- Stops of the code.
-use Rattle.std.proofs.Common.{◌≡◌, ℕ, Option, Some, None, Result, sym, ap, ◌∙◌, List, subst}
+use Rattle.std.proofs.Common.{◌≡◌, ℕ, Option, Some, None, Result, Err, sym, ap, ◌∙◌, List, subst}
 use Rattle.gb_core.specs.declared.refusal.Refused.{Refused}
 use Rattle.gb_core.specs.declared.refusal.Refused.TheVariants as refused
 use Rattle.gb_num.specs.declared.whole.Overflow.{Overflow}
@@ -44,6 +44,10 @@ goes_on os x h = ap (λ z. unless z x) h
 
 pub gives_as : {A B : Type 0} (view : A → B) (c d : Comes B) (r : Result A Stop) → c ≡ d → Gives view d r → Gives view c r
 gives_as view c d r h g = subst (λ z. Gives view z r) (sym h) g
+
+-- what is returned where it stops
+pub stops_with : {A B : Type 0} (view : A → B) (c : Comes B) (r : Result A Stop) (e : Stop) → Stops c e → r ≡ Err e → Gives view c r
+stops_with view c r e s h = subst (Gives view c) (sym h) s
 
 -- a weight over a denominator, by the operations that compute it
 pub chance_by : (w n : ℕ) → 0 < n → n < 2 ^ 127 → chance w n ≡ after (over_steps (of_whole (pos w)) (pos n)) (fraction (reduced (over (of_whole (pos w)) (pos n))))

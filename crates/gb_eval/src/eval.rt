@@ -154,7 +154,8 @@ fn arguments(
     let mut out = Items::new(alloc);
     for arg in args {
         let answer = eval(alloc, arg, env, bound)?;
-        out.push(argument_of(answer)?)?;
+        let argument = argument_of(answer)?;
+        out.push(argument)?;
     }
     Ok(out)
 }
@@ -417,7 +418,8 @@ fn memories_of(alloc: Global, variables: &[TypedVar]) -> Result<Ty, AllocError>
 {
     let mut types = Items::new(alloc);
     for variable in variables {
-        types.push(copy_ty(alloc, variable.ty.get())?)?;
+        let ty = copy_ty(alloc, variable.ty.get())?;
+        types.push(ty)?;
     }
     let types = SharedItems::new(alloc, types)?;
     Ok(Ty::Tuple(types))
@@ -555,7 +557,8 @@ fn event(
     let mut out = Vec::new(alloc);
     for row in rows {
         let value = row.value.share()?;
-        out.push(truth_with(alloc, body, value, env, bound)?)?;
+        let holds = truth_with(alloc, body, value, env, bound)?;
+        out.push(holds)?;
     }
     Ok(out)
 }
@@ -651,7 +654,8 @@ fn images(
     for row in rows {
         let value = row.value.share()?;
         let image = eval_with(alloc, body, value, env, bound)?;
-        out.push(value_in(image)?)?;
+        let outcome = value_in(image)?;
+        out.push(outcome)?;
     }
     Ok(out)
 }

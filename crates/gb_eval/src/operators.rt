@@ -163,7 +163,8 @@ fn entry_of(alloc: Global, entries: &[Value], key: &Value) -> Result<Values, All
     let mut out = Items::new(alloc);
     for entry in entries {
         if has_key(entry, key) {
-            out.push(value_of(entry)?)?;
+            let value = value_of(entry)?;
+            out.push(value)?;
             break;
         }
     }

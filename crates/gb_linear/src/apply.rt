@@ -130,7 +130,12 @@ fn all_assumed(
 fn are_allowed(assumptions: &[Assumption]) -> bool
     ensures { result ≡ list_all is_allowed assumptions.now }
 {
-    assumptions.iter().all(|a| may_have(a.says.equal, a.factor))
+    for a in assumptions {
+        if !may_have(a.says.equal, a.factor) {
+            return false;
+        }
+    }
+    true
 }
 
 fn factor_of(factor: Option<Frac>) -> Frac
@@ -249,10 +254,7 @@ pub fn apply(
     ensures { Answers (linear_answer multiples.now place goal.now) result }
 {
     match closing(alloc, multiples, goal) {
-        Err(Refused::Script { why, place: at }) => {
-            let place = if at.line == 0 { place } else { at };
-            Err(Refused::Script { why, place })
-        }
-        other => other,
+        Ok(goals) => Ok(goals),
+        Err(refused) => Err(refused.placed(place)),
     }
 }

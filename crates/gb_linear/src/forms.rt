@@ -71,7 +71,8 @@ fn shared(alloc: Global, list: &[Summand]) -> Result<Summands, AllocError>
 {
     let mut out = Items::new(alloc);
     for x in list {
-        out.push(with_coefficient(&x.term, x.coefficient)?)?;
+        let summand = with_coefficient(&x.term, x.coefficient)?;
+        out.push(summand)?;
     }
     Ok(out)
 }
@@ -90,7 +91,8 @@ fn merged(
     for x in first {
         let other = take(&mut left, &x.term);
         let number = operated(sign, x.coefficient, other)?;
-        out.push(with_coefficient(&x.term, number)?)?;
+        let summand = with_coefficient(&x.term, number)?;
+        out.push(summand)?;
     }
     besides(alloc, sign, out, left.as_slice())
 }
@@ -121,7 +123,8 @@ fn each_scaled(
     let mut out = Items::new(alloc);
     for x in list {
         let number = multiplied(on, factor, x.coefficient)?;
-        out.push(with_coefficient(&x.term, number)?)?;
+        let summand = with_coefficient(&x.term, number)?;
+        out.push(summand)?;
     }
     Ok(out)
 }
@@ -144,7 +147,12 @@ pub fn scaled(
 pub fn is_constant(a: &LinearForm) -> bool
     ensures { result ≡ is_constant a.now }
 {
-    a.summands.as_slice().iter().all(|x| is_zero(x.coefficient))
+    for x in a.summands.as_slice() {
+        if !is_zero(x.coefficient) {
+            return false;
+        }
+    }
+    true
 }
 
 pub fn of_number(alloc: Global, number: Frac) -> LinearForm
@@ -160,8 +168,9 @@ pub fn of_number(alloc: Global, number: Frac) -> LinearForm
 pub fn alone(alloc: Global, t: &Term) -> Result<LinearForm, AllocError>
     ensures { IfOk result (λ made. made ≡ alone t.now) }
 {
+    let summand = with_coefficient(t, Frac::of_whole(1))?;
     let mut summands = Items::new(alloc);
-    summands.push(with_coefficient(t, Frac::of_whole(1))?)?;
+    summands.push(summand)?;
     Ok(LinearForm {
         constant: Frac::of_whole(0),
         summands,

@@ -51,7 +51,7 @@ fn product_of(
     } else if is_constant(b) {
         scaled(alloc, Stands::Right, b.constant, a)
     } else {
-        alone(alloc, t).map_err(Refused::from)
+        Ok(alone(alloc, t)?)
     }
 }
 
@@ -68,7 +68,7 @@ fn quotient_of(
         let factor = inverse(b.constant)?;
         scaled(alloc, Stands::Right, factor, a)
     } else {
-        alone(alloc, t).map_err(Refused::from)
+        Ok(alone(alloc, t)?)
     }
 }
 
@@ -87,7 +87,7 @@ fn at_forms(
         Op::Minus => combined(alloc, Sign::Minus, a, b),
         Op::Times => product_of(alloc, a, b, t),
         Op::Divide => quotient_of(alloc, a, b, t),
-        _ => alone(alloc, t).map_err(Refused::from),
+        _ => Ok(alone(alloc, t)?),
     }
 }
 
@@ -96,8 +96,8 @@ fn plain(alloc: Global, t: &Term) -> Result<LinearForm, Refused>
     ensures { Answers (given (plain (out-Term t.now).head t.now)) result }
 {
     match t.head.get() {
-        Head::Whole(number) => numeral(alloc, *number, t).map_err(Refused::from),
-        _ => alone(alloc, t).map_err(Refused::from),
+        Head::Whole(number) => Ok(numeral(alloc, *number, t)?),
+        _ => Ok(alone(alloc, t)?),
     }
 }
 

@@ -140,7 +140,7 @@ fn fair_coin(alloc: Global) -> Result<Term, Refused>
 {
     let outcomes = make::truth_ty(alloc)?;
     let ty = Shared::new(alloc, Ty::Distr(outcomes))?;
-    make::leaf(alloc, Head::Builtin(Op::Coin), ty).map_err(Refused::from)
+    Ok(make::leaf(alloc, Head::Builtin(Op::Coin), ty)?)
 }
 
 /// Whether a type is one of distributions.

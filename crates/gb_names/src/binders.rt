@@ -53,7 +53,8 @@ pub fn of_type(alloc: Global, names: &[Node], ty: &Shared<Ty>) -> Result<Typed, 
 {
     let mut all = Items::new(alloc);
     for x in names {
-        all.push(variable(alloc, &x.text, ty)?)?;
+        let name = variable(alloc, &x.text, ty)?;
+        all.push(name)?;
     }
     Ok(all)
 }
@@ -152,7 +153,8 @@ fn memory_bound(
     memory_here(at, place)?;
     new_names(alloc, beside, name, &[])?;
     let mut all = Items::new(alloc);
-    all.push(Binding::memory(alloc, &name.text)?)?;
+    let memory = Binding::memory(alloc, &name.text)?;
+    all.push(memory)?;
     Ok(all)
 }
 
@@ -215,7 +217,7 @@ fn typed_names(
 {
     new_names(alloc, beside, first, more)?;
     let ty = type_of(alloc, scope, ty)?;
-    values(alloc, first, more, &ty).map_err(Refused::from)
+    Ok(values(alloc, first, more, &ty)?)
 }
 
 /// The quantifiers over these things, the first one innermost.

@@ -95,7 +95,8 @@ fn copy_bindings(alloc: Global, list: &[Binding]) -> Result<Bindings, AllocError
 {
     let mut all = Items::new(alloc);
     for x in list {
-        all.push(x.copy(alloc)?)?;
+        let x = x.copy(alloc)?;
+        all.push(x)?;
     }
     Ok(all)
 }

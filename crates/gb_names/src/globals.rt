@@ -291,7 +291,7 @@ pub fn global_variable(
 {
     let ty = global.variable.ty.share()?;
     let var = global.into_var(alloc)?;
-    make::variable(alloc, var, side, ty).map_err(Refused::from)
+    Ok(make::variable(alloc, var, side, ty)?)
 }
 
 /// A read of a global through a memory, where its module may be named.

@@ -91,7 +91,8 @@ fn local_if(alloc: Global, name: &Name, ty: Option<&Shared<Ty>>) -> Result<Typed
 {
     let mut all = Items::new(alloc);
     if let Some(ty) = ty {
-        all.push(variable(alloc, name, ty)?)?;
+        let local = variable(alloc, name, ty)?;
+        all.push(local)?;
     }
     Ok(all)
 }

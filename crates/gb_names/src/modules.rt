@@ -152,7 +152,7 @@ pub fn applied<'a>(
     for tree in arguments {
         give(alloc, at, bound, &mut given, tree)?;
     }
-    given.of(alloc, name, interface).map_err(Refused::from)
+    Ok(given.of(alloc, name, interface)?)
 }
 
 /// The same, where the first argument stands apart.
@@ -177,7 +177,7 @@ pub fn applied_to<'a>(
     for tree in more {
         give(alloc, at, bound, &mut given, tree)?;
     }
-    given.of(alloc, name, interface).map_err(Refused::from)
+    Ok(given.of(alloc, name, interface)?)
 }
 
 /// Whether a name stands there.

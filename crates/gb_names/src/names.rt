@@ -120,7 +120,7 @@ fn bound_variable(alloc: Global, between: usize, ty: &Shared<Ty>) -> Result<Term
 {
     let between = counted(between)?;
     let ty = ty.share()?;
-    make::leaf(alloc, Head::Bound(between), ty).map_err(Refused::from)
+    Ok(make::leaf(alloc, Head::Bound(between), ty)?)
 }
 
 /// What is bound there as a value, which a memory is none.
@@ -139,7 +139,7 @@ fn logical_variable(alloc: Global, at: usize, x: &TypedName) -> Result<Term, Ref
 {
     let at = counted(at)?;
     let ty = x.ty.share()?;
-    make::logical(alloc, at, ty).map_err(Refused::from)
+    Ok(make::logical(alloc, at, ty)?)
 }
 
 /// A read of this program variable through a memory.
@@ -148,7 +148,7 @@ fn program_variable(alloc: Global, x: &TypedName, side: Side) -> Result<Term, Re
 {
     let name = x.name.copy(alloc)?;
     let ty = x.ty.share()?;
-    make::program(alloc, name, side, ty).map_err(Refused::from)
+    Ok(make::program(alloc, name, side, ty)?)
 }
 
 /// A built-in constant or operator.
@@ -197,7 +197,7 @@ pub fn unit(alloc: Global) -> Result<Term, Refused>
     ensures { Answers (given unit) result }
 {
     let ty = Shared::new(alloc, Ty::Unit)?;
-    make::leaf(alloc, Head::Lit(Value::Num(0)), ty).map_err(Refused::from)
+    Ok(make::leaf(alloc, Head::Lit(Value::Num(0)), ty)?)
 }
 
 fn is_among(list: &[Name], name: &Name) -> bool

@@ -87,7 +87,7 @@ fn shared(alloc: Global, scope: &Scope, t: &Node, place: Place) -> Result<Shared
     ensures { Answers (spelled t.now scope.now place) result }
 {
     let ty = spelled(alloc, scope, t, place)?;
-    Shared::new(alloc, ty).map_err(Refused::from)
+    Ok(Shared::new(alloc, ty)?)
 }
 
 /// A type in brackets.
@@ -134,7 +134,8 @@ fn first_parts(alloc: Global, scope: &Scope, parts: &[Node], place: Place) -> Re
 {
     let mut types = Items::new(alloc);
     for i in 0..parts.len().min(PARTS) {
-        types.push(spelled(alloc, scope, &parts[i], place)?)?;
+        let ty = spelled(alloc, scope, &parts[i], place)?;
+        types.push(ty)?;
     }
     Ok(types)
 }
@@ -156,7 +157,7 @@ fn declared_type(alloc: Global, scope: &Scope, name: &Name, own: Place) -> Resul
     ensures { Answers (declared_type scope.now name.now own) result }
 {
     match scope.type_named(alloc, name)? {
-        Some(ty) => copy_ty(alloc, ty.get()).map_err(Refused::from),
+        Some(ty) => Ok(copy_ty(alloc, ty.get())?),
         None => Err(no_declared(alloc, None, scope, name, own)),
     }
 }
@@ -272,7 +273,7 @@ pub fn type_or_number(alloc: Global, scope: &Scope, t: &Node) -> Result<Shared<T
     ensures { Answers (type_or_number scope.now t.now) result }
 {
     match number_type(t) {
-        Some(ty) => Shared::new(alloc, ty).map_err(Refused::from),
+        Some(ty) => Ok(Shared::new(alloc, ty)?),
         None => type_of(alloc, scope, t),
     }
 }

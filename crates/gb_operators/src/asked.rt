@@ -210,7 +210,7 @@ fn drawn_asked(
     match typed {
         [] => Ok(Asked::Source(source_wanted(alloc, drawn, at, want, place)?)),
         [source, ..] => match outcome(source.ty.get()) {
-            Some(ty) => function_asked(alloc, drawn, ty, want).map_err(Refused::from),
+            Some(ty) => Ok(function_asked(alloc, drawn, ty, want)?),
             None => Err(mismatch(place)),
         },
     }

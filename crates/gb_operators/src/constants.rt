@@ -56,7 +56,7 @@ pub fn constant(
 fn truth(alloc: Global, value: bool) -> Result<Term, Refused>
     ensures { Answers (given (truth_literal value)) result }
 {
-    make::boolean(alloc, value).map_err(Refused::from)
+    Ok(make::boolean(alloc, value)?)
 }
 
 /// A constant of any type of some shape.

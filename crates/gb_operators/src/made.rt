@@ -34,14 +34,14 @@ use std::alloc::{AllocError, Global};
 fn headed(alloc: Global, head: Head, args: Terms, ty: Shared<Ty>) -> Result<Term, Refused>
     ensures { Answers (given (node head args ty)) result }
 {
-    make::term(alloc, head, args, ty).map_err(Refused::from)
+    Ok(make::term(alloc, head, args, ty)?)
 }
 
 /// The term of this head and this type that has no arguments.
 pub fn leaf(alloc: Global, head: Head, ty: Shared<Ty>) -> Result<Term, Refused>
     ensures { Answers (given (node head [] ty)) result }
 {
-    make::leaf(alloc, head, ty).map_err(Refused::from)
+    Ok(make::leaf(alloc, head, ty)?)
 }
 
 /// An operator at its arguments.
@@ -56,7 +56,7 @@ fn annotated_made(place: Place, typed: &[Term]) -> Result<Term, Refused>
     ensures { Answers (annotated_made place typed.now) result }
 {
     match typed {
-        [form] => form.share().map_err(Refused::from),
+        [form] => Ok(form.share()?),
         _ => Err(not_built(place)),
     }
 }
@@ -104,7 +104,7 @@ fn part_type(
         return Err(mismatch(place));
     };
     match component(parts, number) {
-        Some(part) => owned(alloc, part).map_err(Refused::from),
+        Some(part) => Ok(owned(alloc, part)?),
         None => Err(argument(digits)),
     }
 }
@@ -144,7 +144,7 @@ fn value_type(alloc: Global, map: &Ty, place: Place) -> Result<Shared<Ty>, Refus
     match entries(map) {
         Some((_, value)) => {
             let value = value.share()?;
-            Shared::new(alloc, Ty::Opt(value)).map_err(Refused::from)
+            Ok(Shared::new(alloc, Ty::Opt(value))?)
         }
         None => Err(mismatch(place)),
     }
@@ -213,9 +213,7 @@ fn sides_made(alloc: Global, operator: Infix, place: Place, typed: &[Term]) -> R
     match typed {
         [first, second] => {
             let ty = result_type(alloc, operator.operands, &first.ty)?;
-            in_order(alloc, operator.op, operator.exchanged, first, second, ty).map_err(
-                Refused::from,
-            )
+            Ok(in_order(alloc, operator.op, operator.exchanged, first, second, ty)?)
         }
         _ => Err(not_built(place)),
     }
@@ -237,7 +235,7 @@ fn quotient_made(
     match typed {
         [first, second] => {
             let ty = Shared::new(alloc, Ty::Real)?;
-            in_order(alloc, Op::Divide, backwards, first, second, ty).map_err(Refused::from)
+            Ok(in_order(alloc, Op::Divide, backwards, first, second, ty)?)
         }
         _ => Err(not_built(place)),
     }
@@ -253,7 +251,7 @@ fn member(alloc: Global, element: &Term, of: &Term) -> Result<Term, Refused>
         Op::InMap
     };
     let ty = make::truth_ty(alloc)?;
-    in_order(alloc, op, false, element, of, ty).map_err(Refused::from)
+    Ok(in_order(alloc, op, false, element, of, ty)?)
 }
 
 /// `\in`, with whether its right side was typed first.
@@ -330,7 +328,7 @@ fn product_type(alloc: Global, left: &Ty, right: &Ty, place: Place) -> Result<Sh
     };
     let pair = pair_type(alloc, first.get(), second.get())?;
     if is_small(pair.get()) {
-        Shared::new(alloc, Ty::Distr(pair)).map_err(Refused::from)
+        Ok(Shared::new(alloc, Ty::Distr(pair))?)
     } else {
         Err(too_large(place))
     }

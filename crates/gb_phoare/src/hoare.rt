@@ -70,12 +70,12 @@ fn exactly(
     match literal(judged.bound) {
         Some(0) => {
             let conclusion = never(alloc, judged)?;
-            one_goal(alloc, goal, conclusion).map_err(Refused::from)
+            Ok(one_goal(alloc, goal, conclusion)?)
         }
         Some(1) => {
             full(alloc, subject_loss(alloc, scope, judged.subject)?)?;
             let conclusion = always(alloc, judged, judged.post.share()?)?;
-            one_goal(alloc, goal, conclusion).map_err(Refused::from)
+            Ok(one_goal(alloc, goal, conclusion)?)
         }
         _ => Err(no_shape()),
     }
@@ -110,10 +110,10 @@ fn by_relation(
     ensures { Answers (each_concluding goal.now (hoare_row scope.now (phoare (code_of judged.now.subject.now) rel judged.now.pre.now judged.now.post.now judged.now.bound.now))) result }
 {
     match rel {
-        Rel::AtMost => at_most(alloc, goal, judged).map_err(Refused::from),
+        Rel::AtMost => Ok(at_most(alloc, goal, judged)?),
         Rel::AtLeast => {
             full(alloc, subject_loss(alloc, scope, judged.subject)?)?;
-            at_least(alloc, goal, judged).map_err(Refused::from)
+            Ok(at_least(alloc, goal, judged)?)
         }
         Rel::Equal => exactly(alloc, goal, judged, scope),
     }

@@ -69,9 +69,7 @@ pub fn placed(made: Result<Sequents, Refused>, at: Place) -> Result<Sequents, Re
     ensures { (answer : Answer (List Goal)) → Answers answer made → Answers (placed_at at answer) result }
 {
     match made {
-        Err(Refused::Script { why, place }) if place.line == 0 => {
-            Err(Refused::Script { why, place: at })
-        }
-        other => other,
+        Ok(goals) => Ok(goals),
+        Err(refused) => Err(refused.placed(at)),
     }
 }

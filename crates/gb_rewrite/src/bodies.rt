@@ -93,7 +93,8 @@ fn all_statements_unfolded(
 {
     let mut made = Items::new(alloc);
     for i in list {
-        made.push(statement_unfolded(alloc, i, name, body)?)?;
+        let i = statement_unfolded(alloc, i, name, body)?;
+        made.push(i)?;
     }
     Ok(made)
 }

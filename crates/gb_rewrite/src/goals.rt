@@ -43,7 +43,7 @@ fn rewriting(
         return Err(no_shape(place));
     }
     let conclusion = rewritten(alloc, &goal.conclusion, replaced, by)?;
-    one(alloc, goal, conclusion).map_err(Refused::from)
+    Ok(one(alloc, goal, conclusion)?)
 }
 
 /// The sides of a known equation or equivalence, the right one first.
@@ -82,7 +82,8 @@ fn others(
     let mut made: Items<Hyp> = Items::new(alloc);
     for i in 0..hyps.len() {
         if i != hyp {
-            made.push(hypothesis_rewritten(alloc, replaced, by, &hyps[i])?)?;
+            let other = hypothesis_rewritten(alloc, replaced, by, &hyps[i])?;
+            made.push(other)?;
         }
     }
     SharedItems::new(alloc, made)
@@ -118,7 +119,7 @@ fn using_up(
     };
     refuse_goal_modules(place, goal)?;
     let without = without(alloc, hyp, replaced, by, goal)?;
-    alone(alloc, without).map_err(Refused::from)
+    Ok(alone(alloc, without)?)
 }
 
 /// The goal without a hypothesis that is an equation, by which a variable is replaced everywhere: the right side by the left one, or
@@ -166,7 +167,7 @@ fn opening(
         return Err(no_shape(place));
     }
     let conclusion = unfolded_everywhere(alloc, &goal.conclusion, name, body)?;
-    one(alloc, goal, conclusion).map_err(Refused::from)
+    Ok(one(alloc, goal, conclusion)?)
 }
 
 /// The goal with what a law of events puts in the place of the first probability of the conclusion that it speaks of. Refused with `Shape`
@@ -184,7 +185,7 @@ fn by_event_law(
         return Err(no_shape(place));
     }
     match by_first(alloc, scope, law, &goal.conclusion)? {
-        Some(conclusion) => one(alloc, goal, conclusion).map_err(Refused::from),
+        Some(conclusion) => Ok(one(alloc, goal, conclusion)?),
         None => Err(no_shape(place)),
     }
 }

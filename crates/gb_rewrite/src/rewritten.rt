@@ -115,7 +115,8 @@ fn all_rewritten(
 {
     let mut made = Items::new(alloc);
     for t in list {
-        made.push(rewritten(alloc, t, replaced, by)?)?;
+        let t = rewritten(alloc, t, replaced, by)?;
+        made.push(t)?;
     }
     Ok(made)
 }

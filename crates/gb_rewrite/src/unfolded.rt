@@ -120,7 +120,8 @@ pub fn all_unfolded(
 {
     let mut made = Items::new(alloc);
     for t in list {
-        made.push(unfolded(alloc, t, name, body)?)?;
+        let t = unfolded(alloc, t, name, body)?;
+        made.push(t)?;
     }
     Ok(made)
 }

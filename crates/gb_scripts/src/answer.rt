@@ -53,13 +53,11 @@ fn read(alloc: Global, part: Part, text: &[u8]) -> Result<(), Refused> {
 
 /// The code of a refusal, and the line and the column.
 fn refusal(alloc: Global, refused: Refused) -> Result<String, AllocError> {
-    match refused {
-        Refused::Script { why, place } => {
-            let code = code(&why);
-            format!(in alloc; "E{code:02} {} {}", place.line, place.col)
-        }
-        Refused::NoMemory | Refused::ReadFault => Err(AllocError),
-    }
+    let Some((why, place)) = refused.into_script() else {
+        return Err(AllocError);
+    };
+    let code = code(&why);
+    format!(in alloc; "E{code:02} {} {}", place.line, place.col)
 }
 
 /// What is read of a text: `ok`, or the code of its refusal, and the line and the column.

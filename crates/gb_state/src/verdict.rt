@@ -60,7 +60,9 @@ pub fn verdict_of(
 {
     match end {
         Ok(end) => verdict_at(alloc, state, end),
-        Err(Refused::Script { why, place }) => Ok(Verdict::Refused { why, place }),
-        Err(Refused::NoMemory | Refused::ReadFault) => Err(AllocError),
+        Err(refused) => match refused.into_script() {
+            Some((why, place)) => Ok(Verdict::Refused { why, place }),
+            None => Err(AllocError),
+        },
     }
 }

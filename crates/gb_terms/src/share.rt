@@ -40,7 +40,8 @@ pub fn copy_typed(alloc: Global, list: &[TypedName]) -> Result<Typed, AllocError
 {
     let mut out = Items::new(alloc);
     for x in list {
-        out.push(x.copy(alloc)?)?;
+        let x = x.copy(alloc)?;
+        out.push(x)?;
     }
     Ok(out)
 }
@@ -61,7 +62,8 @@ pub fn share_terms(alloc: Global, list: &[Term]) -> Result<Terms, AllocError>
 {
     let mut out = Items::new(alloc);
     for x in list {
-        out.push(x.share()?)?;
+        let x = x.share()?;
+        out.push(x)?;
     }
     Ok(out)
 }
@@ -116,7 +118,8 @@ pub fn share_instrs(alloc: Global, list: &[Instr]) -> Result<Instrs, AllocError>
 {
     let mut out = Items::new(alloc);
     for x in list {
-        out.push(x.share(alloc)?)?;
+        let x = x.share(alloc)?;
+        out.push(x)?;
     }
     Ok(out)
 }

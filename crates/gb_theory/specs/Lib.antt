@@ -4,7 +4,6 @@ pub mod Patterns
 pub mod Combinators
 pub mod Commands
 pub mod Outcome
-pub mod Placed
 pub mod Sessions
 pub mod Tactics
 pub mod Verdicts

@@ -31,8 +31,9 @@ pub fn or_left(
     ensures { (x : Answer (List Goal)) → Answers x made → Answers (or_left x goal.now) result }
 {
     match made {
-        Err(Refused::Script { .. }) => Ok(only(alloc, goal)?),
-        other => other,
+        Ok(goals) => Ok(goals),
+        Err(refused) if refused.is_script() => Ok(only(alloc, goal)?),
+        Err(refused) => Err(refused),
     }
 }
 

@@ -12,7 +12,6 @@ ghost use Rattle.gb_elab_mod.specs.Lemmas.{binders_in, lemma_name};
 ghost use Rattle.gb_theory.specs.Built.{Session, OpenProof as Opened, lemmas_with, scope_with, seen_in, with_ended, with_goals};
 ghost use Rattle.gb_theory.specs.Commands.{all_allowed, assumes, brings, declares, is_built_in, loops_opened, opens, opens_loops, requires_files, begun, ended, continued, InProof, Proves, WorksOn, ComesToOf, ComesTo};
 ghost use Rattle.gb_state.specs.Opened.{is_new, is_undeclared};
-ghost use Rattle.gb_theory.specs.Placed.{placed};
 ghost use Rattle.gb_loops.specs.Variants.{goals_of};
 ghost use Rattle.gb_theory.specs.Sessions.{open_of, session_of, Meets, Leads, IsKept};
 
@@ -57,17 +56,7 @@ pub fn execute(alloc: Global, state: &mut State, command: &Node) -> Result<(), R
         command.parts.as_slice(),
     ) {
         Ok(()) => Ok(()),
-        Err(refused) => Err(placed(refused, command.place)),
-    }
-}
-
-/// A refusal with its own place, or else with this one. Lines count from 1, so none is a place of line 0.
-fn placed(refused: Refused, at: Place) -> Refused
-    ensures { result ≡ placed refused at }
-{
-    match refused {
-        Refused::Script { why, place } if place.line == 0 => Refused::Script { why, place: at },
-        other => other,
+        Err(refused) => Err(refused.placed(command.place)),
     }
 }
 
@@ -375,13 +364,12 @@ fn prove(alloc: Global, state: &mut State, tree: &Node, place: Place) -> Result<
             state.proof = Some(proof);
             Ok(())
         }
-        Err(Refused::Script { why, place }) => {
+        Err(refused) if refused.is_script() => {
             state.proof = Some(proof);
-            Err(Refused::Script { why, place })
+            Err(refused)
         }
         // nothing is said of the scope, so no proof is open in it
-        Err(Refused::NoMemory) => Err(Refused::NoMemory),
-        Err(Refused::ReadFault) => Err(Refused::ReadFault),
+        Err(refused) => Err(refused),
     }
 }
 

@@ -209,12 +209,17 @@ fn is_pattern(head: Head) -> bool
 fn fitted(head: Head, made: Result<Sequents, Refused>) -> Result<Sequents, Refused>
     ensures { (x : Answer (List Goal)) → Answers x made → Answers (fitted head x) result }
 {
+    let nowhere = Place {
+        file: 0,
+        line: 0,
+        col: 0,
+    };
     match head {
         Head::SmtPattern => made,
         Head::TrivialPattern => made,
         _ => match made {
-            Err(Refused::Script { why, .. }) => Err(refusal(why)),
-            other => other,
+            Ok(goals) => Ok(goals),
+            Err(refused) => Err(refused.moved(nowhere)),
         },
     }
 }

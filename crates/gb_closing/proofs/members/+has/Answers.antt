@@ -1,7 +1,8 @@
-use Rattle.std.proofs.Common.{inl, inr, sym, ◌∙◌, arith}
+use Rattle.std.proofs.Common.{◌+◌, ◌&&◌, inl, inr, ap, map, drop, sym, ◌∙◌, arith}
+use Rattle.gb_types.specs.Numbering.{is_tuple}
 use Rattle.gb_types.specs.Types.{numbering, size_of}
 use Rattle.gb_types.proofs.Orders.{lawful}
-use Rattle.gb_closing.proofs.Parts.{none_has, none_of_map, map_sizes, other_length}
+use Rattle.gb_closing.proofs.Parts.{map_sizes, no_further, none_has, none_of_map, one_entry, other_length, part_has, parts_end}
 use Rattle.gb_closing.proofs.members.+has.Goals as goal
 use Rattle.gb_closing.proofs.members.+has.Goals.{has_entries-then-size-eq0-via-then-size-eq0, has_entries-then-size-eq0-via-else-size-eq0+then-size-eq0-2}
 
@@ -25,3 +26,32 @@ has_entries-behind_key-requires t c =
 
 pub has_parts-returns-then-types-values : goal.has_parts-returns-then-types-values
 has_parts-returns-then-types-values t c = sym (other_length c.args.types.now c.args.values.now (λ e. omega (arith, e, c.if-types-values.true)))
+
+pub has_entries-loop-entry-preserved : goal.has_entries-loop-entry-preserved
+has_entries-loop-entry-preserved t c =
+    sym (one_entry (numbering c.args.key.now) (numbering c.args.value.now) (lawful c.args.key.now) (lawful c.args.value.now) c.args.entries.now c.loop-entry.entry-index c.loop-entry.from c.entry-item.result
+    c.loop-entry-test.true c.entry-item.is c.in-Some.next (sym c.behind_key.ensures ∙ c.in-Some.is))
+    ∙ c.loop-entry.invariant
+
+pub has_entries-returns-in-None : goal.has_entries-returns-in-None
+has_entries-returns-in-None t c =
+    sym (no_further (numbering c.args.key.now) (numbering c.args.value.now) (lawful c.args.key.now) (lawful c.args.value.now) c.args.entries.now c.loop-entry.entry-index c.loop-entry.from c.entry-item.result
+    c.loop-entry-test.true c.entry-item.is (sym c.behind_key.ensures ∙ c.in-None.is))
+    ∙ c.loop-entry.invariant
+
+pub has_parts-loop-i-preserved : goal.has_parts-loop-i-preserved
+has_parts-loop-i-preserved t c =
+    let v = c.loop-i.invariant in
+    let p = part_has c.args.types.now c.args.values.now c.loop-i.i c.index-types-i.result c.index-values-i.result c.loop-i-test.true (omega (arith, c.loop-i-test.true, v.lengths)) c.index-types-i.is c.index-values-i.is v.finite v.some v.small in
+    record {
+      lengths = v.lengths;
+      finite = p.others_finite;
+      some = p.others_some;
+      small = p.others_exact;
+      rest = sym (p.opened ∙ ap (λ b. b && is_tuple (map numbering (drop (c.loop-i.i + 1) c.args.types.now)) (drop (c.loop-i.i + 1) c.args.values.now)) (sym c.has.ensures ∙ c.if-not-has.false)) ∙ v.rest;
+    }
+
+pub has_parts-returns : goal.has_parts-returns
+has_parts-returns t c =
+    let v = c.loop-i.invariant in
+    sym (parts_end c.args.types.now c.args.values.now c.loop-i.i c.loop-i-test.false v.lengths) ∙ v.rest

@@ -1,9 +1,10 @@
-use Rattle.std.proofs.Common.{◌≡◌, true, false, ◌∷◌, map, reverse, refl, sym, ap, ◌∙◌, arith, rules}
+use Rattle.std.proofs.Common.{◌≡◌, true, false, Err, [], ◌∷◌, map, reverse, refl, sym, ap, ◌∙◌, arith}
+use Rattle.std.proofs.lemmas.Result.{err_from_is_err_and}
 use Rattle.gb_eval.proofs.Fuel.{opens}
 use Rattle.gb_terms.specs.declared.term.Head.TheVariants as head
-use Rattle.gb_core.specs.declared.value.Value.TheVariants.{Num}
+use Rattle.gb_core.specs.declared.value.Value.TheVariants.{Num, Many}
 use Rattle.gb_meaning.specs.Distributions.{stated}
-use Rattle.gb_eval.specs.Findings.{◌>>=◌, argument_of, fraction_in, shown, shown_table, value_in, Stops}
+use Rattle.gb_eval.specs.Findings.{◌>>=◌, argument_of, collected, fraction_in, shown, shown_table, value_in, Stops}
 use Rattle.gb_eval.specs.Findings.Finding.{value}
 use Rattle.gb_eval.specs.Findings.Comes.{found}
 use Rattle.gb_eval.specs.declared.env.Bound.TheVariants as to
@@ -12,13 +13,14 @@ use Rattle.gb_types.specs.Types.{card_of, value_at}
 use Rattle.gb_labels.specs.Held.{with_values}
 use Rattle.gb_dist.specs.Places.{outcomes}
 use Rattle.gb_dist.specs.Rows.{entries}
-use Rattle.gb_eval.specs.Eval.{environment, eval, image_of, in_memories, narrowed, next_sum, part_of, quantified, summed, truth_at, value_bound, value_of, weighed, weighted}
+use Rattle.gb_eval.specs.Operators.{zero_fraction}
+use Rattle.gb_eval.specs.Eval.{environment, eval, image_of, in_memories, in_memory, memories_of, narrowed, next_sum, part_of, quantified, summed, truth_at, truth_under, tuple, value_bound, value_of, weighed, weighted}
 use Rattle.gb_eval.proofs.Layers.{eval_at, eval_other}
 use Rattle.gb_eval.proofs.Environments.{environment_is}
 use Rattle.gb_eval.proofs.Opened.{open_comes, closed_comes}
-use Rattle.gb_eval.proofs.Stops.{gives_as, leads_on, passes, stops_as}
+use Rattle.gb_eval.proofs.Stops.{gives_as, leads_on, passes, stops_as, stops_with}
 use Rattle.gb_eval.proofs.Collected.{one_more, one_stops}
-use Rattle.gb_eval.proofs.Places.{beq_same, in_memories_decided, in_memories_stops, mapped_by, measured_by, operated_many, operated_three, quantified_decided, quantified_stops, restricted_by, summed_stops, summed_whole}
+use Rattle.gb_eval.proofs.Places.{beq_same, in_memories_decided, in_memories_stops, mapped_by, measured_by, operated_many, operated_three, over_next, quantified_decided, quantified_stops, restricted_by, summed_stops, summed_whole, three_other, truths_on}
 use Rattle.gb_eval.proofs.eval.+eval.Goals as goal
 
 pub eval-returns-in_ok-value-in-Lit-clause-found : goal.eval-returns-in_ok-value-in-Lit-clause-found
@@ -134,7 +136,8 @@ quantifier-returns-in_err-truth_with-clause-found t c =
     (ap (map (part_of (environment c.args.env.now))) v.body) v.count c.in_err-truth_with.field-0.0 v.truths
     (stops_as _ _ c.in_err-truth_with.field-0.0 (λ i. truth_at (environment c.args.env.now) c.body-item.result (to.Value (sym c.in_ok-value.ensures i) ∷ reverse (sym v.bound i))) c.in_err-truth_with.ensures.found)
     c.loop-at-test.true in
-    search (rules, h)
+    let e = err_from_is_err_and c.from_residual-in_err-truth_with.result c.from_residual-in_err-truth_with.ensures.1 in
+    stops_with shown _ c.from_residual-in_err-truth_with.result c.in_err-truth_with.field-0.0 h (e.1 ∙ ap Err e.2)
 
 pub quantifier-returns-then-branch-deciding-clause-found : goal.quantifier-returns-then-branch-deciding-clause-found
 quantifier-returns-then-branch-deciding-clause-found t c =
@@ -153,7 +156,8 @@ sum-returns-in_err-all-clause-found t c =
     (ap (map (part_of (environment c.args.env.now))) v.body) v.few c.in_err-all.field-0.0 c.loop-at.all v.sum
     (stops_as _ _ c.in_err-all.field-0.0 (λ i. next_sum (λ k. eval (environment c.args.env.now) c.body-item.result (to.Value (Num k) ∷ reverse (sym v.bound i)) >>= fraction_in) c.loop-at.all c.loop-at.at) c.in_err-all.ensures.found)
     (omega arith) in
-    search (rules, h)
+    let e = err_from_is_err_and c.from_residual.result c.from_residual.ensures.1 in
+    stops_with shown _ c.from_residual.result c.in_err-all.field-0.0 h (e.1 ∙ ap Err e.2)
 
 pub sum-returns-clause-found : goal.sum-returns-clause-found
 sum-returns-clause-found t c =
@@ -215,7 +219,8 @@ in_memories-returns-in_err-truth_in_memory-clause-found t c =
     (λ i. truth_at (environment c.args.env.now) c.args.body.now (to.Memory (with_values c.args.variables.now (parts_of (sym (c.in_ok-value.ensures ∙ ap (λ u. value_at u c.loop-at.at) v.ty) i))) ∷ reverse (sym v.bound i)))
     c.in_err-truth_in_memory.ensures.found)
     c.loop-at-test.true in
-    search (rules, h)
+    let e = err_from_is_err_and c.from_residual-in_err-truth_in_memory.result c.from_residual-in_err-truth_in_memory.ensures.1 in
+    stops_with shown _ c.from_residual-in_err-truth_in_memory.result c.in_err-truth_in_memory.field-0.0 h (e.1 ∙ ap Err e.2)
 
 pub in_memories-returns-then-branch-deciding-clause-found : goal.in_memories-returns-then-branch-deciding-clause-found
 in_memories-returns-then-branch-deciding-clause-found t c =
@@ -236,13 +241,31 @@ tuple-loop-arg-preserved t c =
       parts = one_more (λ l. map (λ x. x.comes (reverse c.args.bound.now) >>= value_in) (map (part_of (environment c.args.env.now)) l)) c.args.args.now c.loop-arg.arg-index c.arg-item.result (eval (environment c.args.env.now) c.arg-item.result (reverse c.args.bound.now) >>= value_in) (λ l. refl) c.loop-arg-test.true c.arg-item.is c.loop-arg.parts c.push.new.self c.in_ok-value_in.field-0 _ v.parts e c.in_ok-push.ensures.ok;
     }
 
+pub tuple-returns-in_err-part-clause-found : goal.tuple-returns-in_err-part-clause-found
+tuple-returns-in_err-part-clause-found t c =
+    let v = c.loop-arg.invariant in
+    let s = c.in_err-part.field-0.0 in
+    let w : Stops (eval (environment c.args.env.now) c.arg-item.result (reverse c.args.bound.now) >>= value_in) s = stops_as _ _ s (ap (λ b. eval (environment c.args.env.now) c.arg-item.result (reverse b) >>= value_in) (sym v.bound)) (passes (eval (environment c.args.env.now) c.arg-item.result (reverse c.loop-arg.bound)) value_in s c.in_err-part.ensures.found) in
+    let h : Stops (tuple (map (part_of (environment c.args.env.now)) c.args.args.now) (reverse c.args.bound.now)) s = passes (collected [] (map (λ x. x.comes (reverse c.args.bound.now) >>= value_in) (map (part_of (environment c.args.env.now)) c.args.args.now))) (λ vs. found (value (Many vs))) s (one_stops (λ l. map (λ x. x.comes (reverse c.args.bound.now) >>= value_in) (map (part_of (environment c.args.env.now)) l)) c.args.args.now c.loop-arg.arg-index c.arg-item.result (eval (environment c.args.env.now) c.arg-item.result (reverse c.args.bound.now) >>= value_in) (λ l. refl) c.loop-arg-test.true c.arg-item.is c.loop-arg.parts s _ v.parts w) in
+    let e = err_from_is_err_and c.from_residual.result c.from_residual.ensures.1 in
+    stops_with shown _ c.from_residual.result s h (e.1 ∙ ap Err e.2)
+
+pub tuple-returns-in_err-value_in-clause-found : goal.tuple-returns-in_err-value_in-clause-found
+tuple-returns-in_err-value_in-clause-found t c =
+    let v = c.loop-arg.invariant in
+    let s = c.in_err-value_in.field-0.0 in
+    let w : Stops (eval (environment c.args.env.now) c.arg-item.result (reverse c.args.bound.now) >>= value_in) s = stops_as _ _ s (ap (λ b. eval (environment c.args.env.now) c.arg-item.result (reverse b) >>= value_in) (sym v.bound) ∙ leads_on (eval (environment c.args.env.now) c.arg-item.result (reverse c.loop-arg.bound)) value_in (shown c.in_ok-part.part) c.in_ok-part.ensures.found) c.in_err-value_in.ensures in
+    let h : Stops (tuple (map (part_of (environment c.args.env.now)) c.args.args.now) (reverse c.args.bound.now)) s = passes (collected [] (map (λ x. x.comes (reverse c.args.bound.now) >>= value_in) (map (part_of (environment c.args.env.now)) c.args.args.now))) (λ vs. found (value (Many vs))) s (one_stops (λ l. map (λ x. x.comes (reverse c.args.bound.now) >>= value_in) (map (part_of (environment c.args.env.now)) l)) c.args.args.now c.loop-arg.arg-index c.arg-item.result (eval (environment c.args.env.now) c.arg-item.result (reverse c.args.bound.now) >>= value_in) (λ l. refl) c.loop-arg-test.true c.arg-item.is c.loop-arg.parts s _ v.parts w) in
+    let e = err_from_is_err_and c.from_residual-in_err-value_in.result c.from_residual-in_err-value_in.ensures.1 in
+    stops_with shown _ c.from_residual-in_err-value_in.result s h (e.1 ∙ ap Err e.2)
+
 pub arguments-loop-arg-preserved : goal.arguments-loop-arg-preserved
 arguments-loop-arg-preserved t c =
     let v = c.loop-arg.invariant in
-    let e : (eval (environment c.args.env.now) c.arg-item.result (reverse c.args.bound.now) >>= argument_of) ≡ found c.in_ok-argument_of.field-0 = ap (λ b. eval (environment c.args.env.now) c.arg-item.result (reverse b) >>= argument_of) (sym v.bound) ∙ leads_on (eval (environment c.args.env.now) c.arg-item.result (reverse c.loop-arg.bound)) argument_of (shown c.in_ok-answer.answer) c.in_ok-answer.ensures.found ∙ c.in_ok-argument_of.ensures in
+    let e : (eval (environment c.args.env.now) c.arg-item.result (reverse c.args.bound.now) >>= argument_of) ≡ found c.in_ok-argument.argument = ap (λ b. eval (environment c.args.env.now) c.arg-item.result (reverse b) >>= argument_of) (sym v.bound) ∙ leads_on (eval (environment c.args.env.now) c.arg-item.result (reverse c.loop-arg.bound)) argument_of (shown c.in_ok-answer.answer) c.in_ok-answer.ensures.found ∙ c.in_ok-argument.ensures in
     record {
       bound = c.in_ok-answer.ensures.bound ∙ v.bound;
-      parts = one_more (λ l. map (λ x. x.comes (reverse c.args.bound.now) >>= argument_of) (map (part_of (environment c.args.env.now)) l)) c.args.args.now c.loop-arg.arg-index c.arg-item.result (eval (environment c.args.env.now) c.arg-item.result (reverse c.args.bound.now) >>= argument_of) (λ l. refl) c.loop-arg-test.true c.arg-item.is c.loop-arg.out c.push.new.self c.in_ok-argument_of.field-0 _ v.parts e c.in_ok-push.ensures.ok;
+      parts = one_more (λ l. map (λ x. x.comes (reverse c.args.bound.now) >>= argument_of) (map (part_of (environment c.args.env.now)) l)) c.args.args.now c.loop-arg.arg-index c.arg-item.result (eval (environment c.args.env.now) c.arg-item.result (reverse c.args.bound.now) >>= argument_of) (λ l. refl) c.loop-arg-test.true c.arg-item.is c.loop-arg.out c.push.new.self c.in_ok-argument.argument _ v.parts e c.in_ok-push.ensures.ok;
     }
 
 pub arguments-returns-in_err-answer-clause-found : goal.arguments-returns-in_err-answer-clause-found
@@ -251,23 +274,25 @@ arguments-returns-in_err-answer-clause-found t c =
     let s = c.in_err-answer.field-0.0 in
     let w : Stops (eval (environment c.args.env.now) c.arg-item.result (reverse c.args.bound.now) >>= argument_of) s = stops_as _ _ s (ap (λ b. eval (environment c.args.env.now) c.arg-item.result (reverse b) >>= argument_of) (sym v.bound)) (passes (eval (environment c.args.env.now) c.arg-item.result (reverse c.loop-arg.bound)) argument_of s c.in_err-answer.ensures.found) in
     let h = (one_stops (λ l. map (λ x. x.comes (reverse c.args.bound.now) >>= argument_of) (map (part_of (environment c.args.env.now)) l)) c.args.args.now c.loop-arg.arg-index c.arg-item.result (eval (environment c.args.env.now) c.arg-item.result (reverse c.args.bound.now) >>= argument_of) (λ l. refl) c.loop-arg-test.true c.arg-item.is c.loop-arg.out s _ v.parts w) in
-    search (rules, h)
+    let e = err_from_is_err_and c.from_residual.result c.from_residual.ensures.1 in
+    stops_with (λ x. x) _ c.from_residual.result s h (e.1 ∙ ap Err e.2)
 
-pub arguments-returns-in_err-argument_of-clause-found : goal.arguments-returns-in_err-argument_of-clause-found
-arguments-returns-in_err-argument_of-clause-found t c =
+pub arguments-returns-in_err-argument-clause-found : goal.arguments-returns-in_err-argument-clause-found
+arguments-returns-in_err-argument-clause-found t c =
     let v = c.loop-arg.invariant in
-    let s = c.in_err-argument_of.field-0.0 in
-    let w : Stops (eval (environment c.args.env.now) c.arg-item.result (reverse c.args.bound.now) >>= argument_of) s = stops_as _ _ s (ap (λ b. eval (environment c.args.env.now) c.arg-item.result (reverse b) >>= argument_of) (sym v.bound) ∙ leads_on (eval (environment c.args.env.now) c.arg-item.result (reverse c.loop-arg.bound)) argument_of (shown c.in_ok-answer.answer) c.in_ok-answer.ensures.found) c.in_err-argument_of.ensures in
+    let s = c.in_err-argument.field-0.0 in
+    let w : Stops (eval (environment c.args.env.now) c.arg-item.result (reverse c.args.bound.now) >>= argument_of) s = stops_as _ _ s (ap (λ b. eval (environment c.args.env.now) c.arg-item.result (reverse b) >>= argument_of) (sym v.bound) ∙ leads_on (eval (environment c.args.env.now) c.arg-item.result (reverse c.loop-arg.bound)) argument_of (shown c.in_ok-answer.answer) c.in_ok-answer.ensures.found) c.in_err-argument.ensures in
     let h = (one_stops (λ l. map (λ x. x.comes (reverse c.args.bound.now) >>= argument_of) (map (part_of (environment c.args.env.now)) l)) c.args.args.now c.loop-arg.arg-index c.arg-item.result (eval (environment c.args.env.now) c.arg-item.result (reverse c.args.bound.now) >>= argument_of) (λ l. refl) c.loop-arg-test.true c.arg-item.is c.loop-arg.out s _ v.parts w) in
-    search (rules, h)
+    let e = err_from_is_err_and c.from_residual-in_err-argument.result c.from_residual-in_err-argument.ensures.1 in
+    stops_with (λ x. x) _ c.from_residual-in_err-argument.result s h (e.1 ∙ ap Err e.2)
 
 pub images-loop-row-preserved : goal.images-loop-row-preserved
 images-loop-row-preserved t c =
     let v = c.loop-row.invariant in
-    let e : (eval (environment c.args.env.now) c.args.body.now (to.Value c.row-item.result.value ∷ (reverse c.args.bound.now)) >>= value_in) ≡ found c.in_ok-value_in.field-0 = (λ i. eval (environment c.args.env.now) c.args.body.now (to.Value (sym c.in_ok-value.ensures i) ∷ reverse (sym v.bound i)) >>= value_in) ∙ leads_on (eval (environment c.args.env.now) c.args.body.now (to.Value c.in_ok-value.value ∷ reverse c.loop-row.bound)) value_in (shown c.in_ok-image.image) c.in_ok-image.ensures.found ∙ c.in_ok-value_in.ensures in
+    let e : (eval (environment c.args.env.now) c.args.body.now (to.Value c.row-item.result.value ∷ (reverse c.args.bound.now)) >>= value_in) ≡ found c.in_ok-outcome.outcome = (λ i. eval (environment c.args.env.now) c.args.body.now (to.Value (sym c.in_ok-value.ensures i) ∷ reverse (sym v.bound i)) >>= value_in) ∙ leads_on (eval (environment c.args.env.now) c.args.body.now (to.Value c.in_ok-value.value ∷ reverse c.loop-row.bound)) value_in (shown c.in_ok-image.image) c.in_ok-image.ensures.found ∙ c.in_ok-outcome.ensures in
     record {
       bound = c.in_ok-image.ensures.bound ∙ v.bound;
-      images = one_more (λ l. map (λ v. eval (environment c.args.env.now) c.args.body.now (to.Value v ∷ (reverse c.args.bound.now)) >>= value_in) (outcomes (entries l))) c.args.rows.now c.loop-row.row-index c.row-item.result (eval (environment c.args.env.now) c.args.body.now (to.Value c.row-item.result.value ∷ (reverse c.args.bound.now)) >>= value_in) (λ l. refl) c.loop-row-test.true c.row-item.is c.loop-row.out c.push.new.self c.in_ok-value_in.field-0 _ v.images e c.in_ok-push.ensures.ok;
+      images = one_more (λ l. map (λ v. eval (environment c.args.env.now) c.args.body.now (to.Value v ∷ (reverse c.args.bound.now)) >>= value_in) (outcomes (entries l))) c.args.rows.now c.loop-row.row-index c.row-item.result (eval (environment c.args.env.now) c.args.body.now (to.Value c.row-item.result.value ∷ (reverse c.args.bound.now)) >>= value_in) (λ l. refl) c.loop-row-test.true c.row-item.is c.loop-row.out c.push.new.self c.in_ok-outcome.outcome _ v.images e c.in_ok-push.ensures.ok;
     }
 
 pub images-returns-in_err-image-clause-found : goal.images-returns-in_err-image-clause-found
@@ -276,12 +301,75 @@ images-returns-in_err-image-clause-found t c =
     let s = c.in_err-image.field-0.0 in
     let w : Stops (eval (environment c.args.env.now) c.args.body.now (to.Value c.row-item.result.value ∷ (reverse c.args.bound.now)) >>= value_in) s = stops_as _ _ s (λ i. eval (environment c.args.env.now) c.args.body.now (to.Value (sym c.in_ok-value.ensures i) ∷ reverse (sym v.bound i)) >>= value_in) (passes (eval (environment c.args.env.now) c.args.body.now (to.Value c.in_ok-value.value ∷ reverse c.loop-row.bound)) value_in s c.in_err-image.ensures.found) in
     let h = (one_stops (λ l. map (λ v. eval (environment c.args.env.now) c.args.body.now (to.Value v ∷ (reverse c.args.bound.now)) >>= value_in) (outcomes (entries l))) c.args.rows.now c.loop-row.row-index c.row-item.result (eval (environment c.args.env.now) c.args.body.now (to.Value c.row-item.result.value ∷ (reverse c.args.bound.now)) >>= value_in) (λ l. refl) c.loop-row-test.true c.row-item.is c.loop-row.out s _ v.images w) in
-    search (rules, h)
+    let e = err_from_is_err_and c.from_residual-in_err-image.result c.from_residual-in_err-image.ensures.1 in
+    stops_with (λ x. x) _ c.from_residual-in_err-image.result s h (e.1 ∙ ap Err e.2)
 
-pub images-returns-in_err-value_in-clause-found : goal.images-returns-in_err-value_in-clause-found
-images-returns-in_err-value_in-clause-found t c =
+pub images-returns-in_err-outcome-clause-found : goal.images-returns-in_err-outcome-clause-found
+images-returns-in_err-outcome-clause-found t c =
     let v = c.loop-row.invariant in
-    let s = c.in_err-value_in.field-0.0 in
-    let w : Stops (eval (environment c.args.env.now) c.args.body.now (to.Value c.row-item.result.value ∷ (reverse c.args.bound.now)) >>= value_in) s = stops_as _ _ s ((λ i. eval (environment c.args.env.now) c.args.body.now (to.Value (sym c.in_ok-value.ensures i) ∷ reverse (sym v.bound i)) >>= value_in) ∙ leads_on (eval (environment c.args.env.now) c.args.body.now (to.Value c.in_ok-value.value ∷ reverse c.loop-row.bound)) value_in (shown c.in_ok-image.image) c.in_ok-image.ensures.found) c.in_err-value_in.ensures in
+    let s = c.in_err-outcome.field-0.0 in
+    let w : Stops (eval (environment c.args.env.now) c.args.body.now (to.Value c.row-item.result.value ∷ (reverse c.args.bound.now)) >>= value_in) s = stops_as _ _ s ((λ i. eval (environment c.args.env.now) c.args.body.now (to.Value (sym c.in_ok-value.ensures i) ∷ reverse (sym v.bound i)) >>= value_in) ∙ leads_on (eval (environment c.args.env.now) c.args.body.now (to.Value c.in_ok-value.value ∷ reverse c.loop-row.bound)) value_in (shown c.in_ok-image.image) c.in_ok-image.ensures.found) c.in_err-outcome.ensures in
     let h = (one_stops (λ l. map (λ v. eval (environment c.args.env.now) c.args.body.now (to.Value v ∷ (reverse c.args.bound.now)) >>= value_in) (outcomes (entries l))) c.args.rows.now c.loop-row.row-index c.row-item.result (eval (environment c.args.env.now) c.args.body.now (to.Value c.row-item.result.value ∷ (reverse c.args.bound.now)) >>= value_in) (λ l. refl) c.loop-row-test.true c.row-item.is c.loop-row.out s _ v.images w) in
-    search (rules, h)
+    let e = err_from_is_err_and c.from_residual-in_err-outcome.result c.from_residual-in_err-outcome.ensures.1 in
+    stops_with (λ x. x) _ c.from_residual-in_err-outcome.result s h (e.1 ∙ ap Err e.2)
+
+pub event-loop-row-preserved : goal.event-loop-row-preserved
+event-loop-row-preserved t c =
+    let v = c.loop-row.invariant in
+    record {
+      bound = c.in_ok-holds.ensures.bound ∙ v.bound;
+      truths = one_more (λ l. map (λ v. truth_under (part_of (environment c.args.env.now) c.args.body.now) (to.Value v ∷ reverse c.args.bound.now)) (outcomes (entries l))) c.args.rows.now c.loop-row.row-index c.row-item.result (truth_under (part_of (environment c.args.env.now) c.args.body.now) (to.Value c.row-item.result.value ∷ reverse c.args.bound.now)) (λ l. refl) c.loop-row-test.true c.row-item.is c.loop-row.out.items c.push.new.self.items c.in_ok-holds.holds _ v.truths
+          ((λ i. truth_at (environment c.args.env.now) c.args.body.now (to.Value (sym c.in_ok-value.ensures i) ∷ reverse (sym v.bound i))) ∙ c.in_ok-holds.ensures.found) c.in_ok-push.ensures.items;
+    }
+
+pub event-returns-in_err-holds-clause-found : goal.event-returns-in_err-holds-clause-found
+event-returns-in_err-holds-clause-found t c =
+    let v = c.loop-row.invariant in
+    let s = c.in_err-holds.field-0.0 in
+    let w : Stops (truth_under (part_of (environment c.args.env.now) c.args.body.now) (to.Value c.row-item.result.value ∷ reverse c.args.bound.now)) s = stops_as _ _ s (λ i. truth_at (environment c.args.env.now) c.args.body.now (to.Value (sym c.in_ok-value.ensures i) ∷ reverse (sym v.bound i))) c.in_err-holds.ensures.found in
+    let h = one_stops (λ l. map (λ v. truth_under (part_of (environment c.args.env.now) c.args.body.now) (to.Value v ∷ reverse c.args.bound.now)) (outcomes (entries l))) c.args.rows.now c.loop-row.row-index c.row-item.result (truth_under (part_of (environment c.args.env.now) c.args.body.now) (to.Value c.row-item.result.value ∷ reverse c.args.bound.now)) (λ l. refl) c.loop-row-test.true c.row-item.is c.loop-row.out.items s _ v.truths w in
+    let e = err_from_is_err_and c.from_residual-in_err-holds.result c.from_residual-in_err-holds.ensures.1 in
+    stops_with (λ bs. bs.items) _ c.from_residual-in_err-holds.result s h (e.1 ∙ ap Err e.2)
+
+pub quantifier-loop-at-preserved : goal.quantifier-loop-at-preserved
+quantifier-loop-at-preserved t c =
+    let v = c.loop-at.invariant in
+    record {
+      bound = c.in_ok-truth_with.ensures.bound ∙ v.bound;
+      body = v.body;
+      count = v.count;
+      truths = truths_on c.args.deciding (λ i. truth_at (environment c.args.env.now) c.body-item.result (to.Value (value_at c.args.ty.now i) ∷ reverse c.args.bound.now)) c.loop-at.at _ v.truths
+          ((λ i. truth_at (environment c.args.env.now) c.body-item.result (to.Value (sym c.in_ok-value.ensures i) ∷ reverse (sym v.bound i))) ∙ c.in_ok-truth_with.ensures.found) c.if-branch-deciding.false;
+    }
+
+pub in_memories-loop-at-preserved : goal.in_memories-loop-at-preserved
+in_memories-loop-at-preserved t c =
+    let v = c.loop-at.invariant in
+    record {
+      bound = c.in_ok-truth_in_memory.ensures.bound ∙ v.bound;
+      ty = v.ty;
+      count = v.count;
+      some = v.some;
+      truths = truths_on c.args.deciding (λ i. in_memory c.args.variables.now (part_of (environment c.args.env.now) c.args.body.now) (reverse c.args.bound.now) (value_at (memories_of c.args.variables.now) i)) c.loop-at.at _ v.truths
+          ((λ i. truth_at (environment c.args.env.now) c.args.body.now (to.Memory (with_values c.args.variables.now (parts_of (sym (c.in_ok-value.ensures ∙ ap (λ u. value_at u c.loop-at.at) v.ty) i))) ∷ reverse (sym v.bound i)))
+          ∙ c.in_ok-truth_in_memory.ensures.found) c.if-branch-deciding.false;
+    }
+
+pub sum-loop-at-preserved : goal.sum-loop-at-preserved
+sum-loop-at-preserved t c =
+    let v = c.loop-at.invariant in
+    record {
+      bound = c.in_ok-all.ensures.bound ∙ v.bound;
+      body = v.body;
+      few = v.few;
+      sum = over_next (next_sum (λ k. eval (environment c.args.env.now) c.body-item.result (to.Value (Num k) ∷ reverse c.args.bound.now) >>= fraction_in)) zero_fraction c.loop-at.at c.loop-at.all v.sum
+          ∙ (λ i. next_sum (λ k. eval (environment c.args.env.now) c.body-item.result (to.Value (Num k) ∷ reverse (sym v.bound i)) >>= fraction_in) c.loop-at.all c.loop-at.at)
+          ∙ c.in_ok-all.ensures.found;
+    }
+
+pub ternary-returns-in_default : goal.ternary-returns-in_default
+ternary-returns-in_default t c =
+    record {
+      found = three_other c.args.op c.args.ty.now (map (part_of (environment c.args.env.now)) c.args.args.now) (reverse c.args.bound.now) c.in_default.not-If c.in_default.not-Set;
+      bound = tt;
+    }

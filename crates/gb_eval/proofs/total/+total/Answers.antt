@@ -4,7 +4,7 @@ use Rattle.gb_meaning.specs.Distributions.{stated}
 use Rattle.gb_terms.specs.declared.term.Head.TheVariants as head
 use Rattle.gb_eval.specs.Totals.{total_of, weights_total}
 use Rattle.gb_eval.specs.Eval.{operators_in}
-use Rattle.gb_eval.proofs.Layers.{total_at, total_first, total_other, uniform_total}
+use Rattle.gb_eval.proofs.Layers.{operator_other, total_at, total_first, total_other, uniform_total}
 use Rattle.gb_eval.specs.Findings.Comes.{unknown}
 use Rattle.gb_eval.proofs.Opened.{open_total, closed_total}
 use Rattle.gb_eval.proofs.Stops.{gives_as}
@@ -58,3 +58,7 @@ named_total-returns-in-None-clause-value t c =
 pub named_total-total-requires : goal.named_total-total-requires
 named_total-total-requires t c =
     ((let f = opens c.args.script.now c.inside.result c.args.name.now c.in-Some.body.now c.in-Some.ensures c.inside.ensures.scope c.inside.ensures.depth in omega arith), tt)
+
+pub operator_total-returns-in_default : goal.operator_total-returns-in_default
+operator_total-returns-in_default t c =
+    record { value = operator_other c.args.op c.args.ty.now (map (total_of (operators_in c.args.script.now)) c.args.args.now) c.in_default.not-Coin c.in_default.not-Uniform c.in_default.not-Dunit c.in_default.not-Product c.in_default.not-If; above = tt; small = tt }

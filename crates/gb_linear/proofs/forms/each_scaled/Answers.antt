@@ -12,7 +12,7 @@ pub loop-x-preserved : goal.loop-x-preserved
 loop-x-preserved c =
     scaled_on c.args.on c.args.factor c.args.list.now c.loop-x.out c.loop-x.x-index c.loop-x.invariant
     c.x-item.result c.loop-x-test.true c.x-item.is
-    c.push.new.self c.in_ok-number.number c.in_ok-with_coefficient.field-0 c.in_ok-number.ensures c.in_ok-with_coefficient.ensures c.in_ok-push.ensures.ok
+    c.push.new.self c.in_ok-number.number c.in_ok-summand.summand c.in_ok-number.ensures c.in_ok-summand.ensures c.in_ok-push.ensures.ok
 
 pub returns-in_err-number : goal.returns-in_err-number
 returns-in_err-number c =

@@ -14,8 +14,8 @@ pub loop-x-preserved : goal.loop-x-preserved
 loop-x-preserved c =
     merged_on c.args.sign c.args.first.now c.args.second.now c.loop-x.left c.loop-x.out c.loop-x.x-index c.loop-x.invariant
     c.x-item.result c.take-other.result c.loop-x-test.true c.x-item.is c.take-other.ensures.coefficient
-    c.take-other.new.list c.push.new.self c.in_ok-number.number c.in_ok-with_coefficient.field-0
-    c.take-other.ensures.others c.in_ok-number.ensures c.in_ok-with_coefficient.ensures c.in_ok-push.ensures.ok
+    c.take-other.new.list c.push.new.self c.in_ok-number.number c.in_ok-summand.summand
+    c.take-other.ensures.others c.in_ok-number.ensures c.in_ok-summand.ensures c.in_ok-push.ensures.ok
 
 pub returns-in_err-number : goal.returns-in_err-number
 returns-in_err-number c =

@@ -16,8 +16,8 @@ first_parts-loop-i-init t c =
     let a = all_given (answers c.args.scope.now c.args.place (take 8 c.args.parts.now)) in
     subst (λ ts. a ≡ behind ts a) (sym c.new-types.ensures) (behind_none a)
 
-pub first_parts-returns-in_err-spelled : goal.first_parts-returns-in_err-spelled
-first_parts-returns-in_err-spelled t c =
+pub first_parts-returns-in_err-ty : goal.first_parts-returns-in_err-ty
+first_parts-returns-in_err-ty t c =
     let ps = c.args.parts.now in
     let x = c.index-parts-i.result in
     let h : c.loop-i.i < min (length ps) 8 = rw (← c.min-i-end.ensures) c.loop-i-test.true in
@@ -25,7 +25,7 @@ first_parts-returns-in_err-spelled t c =
     let e =
     first_answers 8 c.args.scope.now c.args.place ps ∙ c.loop-i.invariant
     ∙ ap (λ ts. behind c.loop-i.types (all_given (answers c.args.scope.now c.args.place ts))) (next_part 8 c.loop-i.i ps x h c.index-parts-i.is) in
-    let fails = fails_as _ _ _ e (behind_refused c.loop-i.types (spelled x c.args.scope.now c.args.place) rest _ c.in_err-spelled.ensures) in
+    let fails = fails_as _ _ _ e (behind_refused c.loop-i.types (spelled x c.args.scope.now c.args.place) rest _ c.in_err-ty.ensures) in
     search rules
 
 pub first_parts-loop-i-preserved : goal.first_parts-loop-i-preserved
@@ -36,7 +36,7 @@ first_parts-loop-i-preserved t c =
     let rest = answers c.args.scope.now c.args.place (drop (c.loop-i.i + 1) (take 8 ps)) in
     c.loop-i.invariant
     ∙ ap (λ ts. behind c.loop-i.types (all_given (answers c.args.scope.now c.args.place ts))) (next_part 8 c.loop-i.i ps x h c.index-parts-i.is)
-    ∙ behind_one c.loop-i.types c.in_ok-spelled.field-0 _ rest c.in_ok-spelled.ensures
+    ∙ behind_one c.loop-i.types c.in_ok-ty.ty _ rest c.in_ok-ty.ensures
     ∙ ap (λ ts. behind ts (all_given rest)) (sym c.in_ok-push.ensures.ok)
 
 pub first_parts-returns : goal.first_parts-returns

@@ -5,8 +5,8 @@ use Rattle.gb_rewrite.proofs.bodies.+statement_unfolded.Goals as goal
 
 pub all_statements_unfolded-loop-i-preserved : goal.all_statements_unfolded-loop-i-preserved
 all_statements_unfolded-loop-i-preserved t c =
-    mapped (λ i. statement_at c.args.name.now c.args.body.now (out-Instr i)) c.args.list.now c.loop-i.i-index c.i-item.result c.loop-i.made c.push.new.self c.in_ok-statement_unfolded.field-0
-    c.loop-i-test.true c.i-item.is c.loop-i.invariant c.in_ok-statement_unfolded.ensures c.in_ok-push.ensures.ok
+    mapped (λ i. statement_at c.args.name.now c.args.body.now (out-Instr i)) c.args.list.now c.loop-i.i-index c.i-item.result c.loop-i.made c.push.new.self c.in_ok-i.i
+    c.loop-i-test.true c.i-item.is c.loop-i.invariant c.in_ok-i.ensures c.in_ok-push.ensures.ok
 
 pub all_statements_unfolded-returns : goal.all_statements_unfolded-returns
 all_statements_unfolded-returns t c =

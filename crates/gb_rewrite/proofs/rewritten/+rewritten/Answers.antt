@@ -19,8 +19,8 @@ rewritten-returns t c =
 
 pub all_rewritten-loop-t-preserved : goal.all_rewritten-loop-t-preserved
 all_rewritten-loop-t-preserved t c =
-    mapped (rewritten c.args.replaced.now c.args.by.now) c.args.list.now c.loop-t.t-index c.t-item.result c.loop-t.made c.push.new.self c.in_ok-rewritten.field-0
-    c.loop-t-test.true c.t-item.is c.loop-t.invariant c.in_ok-rewritten.ensures c.in_ok-push.ensures.ok
+    mapped (rewritten c.args.replaced.now c.args.by.now) c.args.list.now c.loop-t.t-index c.t-item.result c.loop-t.made c.push.new.self c.in_ok-t.t
+    c.loop-t-test.true c.t-item.is c.loop-t.invariant c.in_ok-t.ensures c.in_ok-push.ensures.ok
 
 pub all_rewritten-returns : goal.all_rewritten-returns
 all_rewritten-returns t c =
