@@ -44,10 +44,15 @@ module _ (g : Setting) (names : Names) (m n : Memory) where
   module _ (reads : (x : Var) (u : Ty) → type_of names x ≡ Some u → Covers IsSame (cells_of g.types x u)) where
     head_covered : (h : Head) (u : Ty) → IsProgramHead names h u → Covers IsSame (leaf_cells g h u)
     head_covered (head.Lit v) u w = none_covered IsSame
-    head_covered (head.Read (read.Program x Own)) u w = reads x u w
+    head_covered (head.Whole n) u w = none_covered IsSame
+    head_covered (head.Read (read.Program x Own)) u w = reads x u w.1
     head_covered (head.Bound i) u w = none_covered IsSame
     head_covered (head.Builtin op) u w = none_covered IsSame
     head_covered (head.User o) u w = none_covered IsSame
+    head_covered (head.All a) u w = none_covered IsSame
+    head_covered (head.Some a) u w = none_covered IsSame
+    head_covered head.Mu u w = none_covered IsSame
+    head_covered (head.Sum q) u w = none_covered IsSame
     head_covered (head.Weights ps) u w = none_covered IsSame
     head_covered head.Map u w = none_covered IsSame
     head_covered head.Restrict u w = none_covered IsSame
@@ -55,7 +60,7 @@ module _ (g : Setting) (names : Names) (m n : Memory) where
 
     mutual
       covered : (e : Term) → IsExpression names e → Covers IsSame (term_cells g e)
-      covered (Term' b (more_of-Head h end_of-Head) k args u) w = both_covered IsSame (leaf_cells g h u) (row_cells g args) (head_covered h u w.1) (all_covered args w.2)
+      covered (Term' b (more_of-Head h end_of-Head) k args u) w = both_covered IsSame (leaf_cells g h u) (row_cells g args) (head_covered h u w.0) (all_covered args w.1)
 
       all_covered : {k : Count} (r : Row_of-Term k) → AreExpressions names r → Covers IsSame (row_cells g r)
       all_covered end_of-Term w = none_covered IsSame

@@ -66,14 +66,14 @@ module _ (g : Setting) (F : Cell → Type 0) (frames : (x : Path) (t : Ty) → F
     variable_read (var.Glob a) t e c i = absurd (none-some t e)
 
     leaf_read : (h : Head) (t : Ty) → IsProgramHead n h t → Covers F (leaf_cells g h t)
-    leaf_read (head.Read (of_program y Own)) t w = variable_read y t w
+    leaf_read (head.Read (of_program y Own)) t w = variable_read y t w.1
     leaf_read (head.Read r) t w = absurd w
     leaf_read (head.Glob m r) t w = absurd w
     leaf_read _ t w = λ c i. absurd i
 
     mutual
       term_read : (e : Term) → IsExpression n e → Covers F (term_cells g e)
-      term_read (Term' b (more_of-Head h end_of-Head) k ts t) w = covers_both F (leaf_cells g h t) (row_cells g ts) (leaf_read h t w.1) (row_read ts w.2)
+      term_read (Term' b (more_of-Head h end_of-Head) k ts t) w = covers_both F (leaf_cells g h t) (row_cells g ts) (leaf_read h t w.0) (row_read ts w.1)
 
       row_read : {k : Count} (ts : Row_of-Term k) → AreExpressions n ts → Covers F (row_cells g ts)
       row_read end_of-Term w = λ c i. absurd i

@@ -95,7 +95,7 @@ module _ (size : Name → ℕ) (ds : Declarations) (g : Setting) (e : g.types.si
     (
       subst (AreLocals g.types) (sym (append-nil s.params)) (stored_local size g.types e s.params ps),
       tt,
-      ((plain_glob (λ m. ⊥) s.result r.0, tt, tt), λ q. first_has size g.types e s.result r),
+      ((tt, tt), (λ q. first_has size g.types e s.result r), plain_glob (λ m. ⊥) s.result r.0),
     ),
   )
 

@@ -16,39 +16,8 @@ use Rattle.gb_meaning.specs.Declared.{Declarations, Declaration, declared, modul
 use Rattle.gb_meaning.specs.Holds.{EachDeclared}
 use Rattle.gb_meaning.specs.Naming.{AnyName}
 use Rattle.gb_meaning.specs.Truth.{has_module}
-use Rattle.gb_typing.specs.Naming.{EachGlobOf, TermNames, TermsName}
-
-abbrev mutual
-  -- each module whose globals the terms of a statement speak of is in P
-  pub StatementSpeaks : (Name → Type 0) → Instr → Type 0
-  StatementSpeaks P (Assign xs e) = TermNames P AnyName e
-  StatementSpeaks P (Sample x d) = TermNames P AnyName d
-  StatementSpeaks P (Call' xs p n es) = TermsName P AnyName es
-  StatementSpeaks P (If' e m a n b) = TermNames P AnyName e × StatementsSpeak P a × StatementsSpeak P b
-  StatementSpeaks P (While' e v n a) = TermNames P AnyName e × TermNames P AnyName v × StatementsSpeak P a
-
-  pub StatementsSpeak : {n : _} → (Name → Type 0) → Row_of-Instr n → Type 0
-  StatementsSpeak P end_of-Instr = Unit {0}
-  StatementsSpeak P (more_of-Instr i is) = StatementSpeaks P i × StatementsSpeak P is
-
--- the same of a list of statements
-abbrev pub BodySpeaks : (Name → Type 0) → List Instr → Type 0
-BodySpeaks P [] = Unit {0}
-BodySpeaks P (i ∷ is) = StatementSpeaks P i × BodySpeaks P is
-
--- and of procedures
-abbrev pub ProceduresSpeak : (Name → Type 0) → List Proc → Type 0
-ProceduresSpeak P [] = Unit {0}
-ProceduresSpeak P (p ∷ ps) = (BodySpeaks P p.body.list × TermNames P AnyName p.value) × ProceduresSpeak P ps
-
--- and of a module
-abbrev pub DeclarationSpeaks : (Name → Type 0) → Declaration → Type 0
-DeclarationSpeaks P (concrete_module m) = ProceduresSpeak P m.procs
-DeclarationSpeaks P _ = Unit {0}
-
--- The modules of a scope speak of the globals of modules in P alone.
-abbrev pub ScopeSpeaks : (Name → Type 0) → Declarations → Type 0
-ScopeSpeaks P ds = EachDeclared (DeclarationSpeaks P) ds
+use Rattle.gb_typing.specs.Naming.{EachGlobOf, TermNames}
+pub use Rattle.gb_typing.specs.Speaking.{StatementSpeaks, StatementsSpeak, BodySpeaks, ProceduresSpeak, DeclarationSpeaks, ScopeSpeaks}
 
 -- the body of a judgment, if it speaks of one
 abbrev pub SubjectSpeaks : (Name → Type 0) → Subject → Type 0

@@ -35,11 +35,11 @@ names = record { globals = []; locals = truth_value reply ∷ [] }
 
 literal : (g : Setting) (c : Names) → IsTypedTerm g c true_literal
 unfolding out-Value denote.Hole.Carrier.out
-literal g c = ((tt, tt, tt), λ s. refl)
+literal g c = ((tt, tt), (λ s. refl), tt)
 
 reading : (g : Setting) → IsTypedTerm g names (read_of (Local reply))
 unfolding names
-reading g = ((tt, refl, tt), λ s. fits g.types (get s.own.frame (reply ∷ [])))
+reading g = (((tt, refl), tt), (λ s. fits g.types (get s.own.frame (reply ∷ []))), tt)
 
 typed : (g : Setting) (w : World) → IsProgramFor oracle_and_adversary g w asking_type curious_program
 unfolding names

@@ -70,10 +70,15 @@ module _ (w : World) (gs : List Global) (a : AreIn w gs) (ls : List TypedName) w
 
   head-more : (h : Head) (t : Ty) → IsProgramHead few h t → IsProgramHead many h t
   head-more (head.Lit v) t e = tt
-  head-more (head.Read (read.Program x Own)) t e = type-more x t e
+  head-more (head.Whole n) t e = tt
+  head-more (head.Read (read.Program x Own)) t e = (e.0, type-more x t e.1)
   head-more (head.Bound i) t e = tt
-  head-more (head.Builtin op) t e = tt
+  head-more (head.Builtin op) t e = e
   head-more (head.User n) t e = tt
+  head-more (head.All u) t e = e
+  head-more (head.Some u) t e = e
+  head-more head.Mu t e = tt
+  head-more (head.Sum q) t e = tt
   head-more (head.Weights ps) t e = tt
   head-more head.Map t e = tt
   head-more head.Restrict t e = tt
@@ -81,7 +86,7 @@ module _ (w : World) (gs : List Global) (a : AreIn w gs) (ls : List TypedName) w
 
   mutual
     expression-more : (e : Term) → IsExpression few e → IsExpression many e
-    expression-more (Term' b (more_of-Head h end_of-Head) n args t) k = (k.0, head-more h t k.1, expressions-more args k.2)
+    expression-more (Term' b (more_of-Head h end_of-Head) n args t) k = (head-more h t k.0, expressions-more args k.1)
 
     expressions-more : {n : Count} (r : Row_of-Term n) → AreExpressions few r → AreExpressions many r
     expressions-more end_of-Term k = tt
@@ -89,7 +94,7 @@ module _ (w : World) (gs : List Global) (a : AreIn w gs) (ls : List TypedName) w
 
   module _ (g : Setting) where
     term-more : (e : Term) → IsTypedTerm g few e → IsTypedTerm g many e
-    term-more e k = (expression-more e k.0, k.1)
+    term-more e k = (expression-more e k.0, k.1, k.2)
 
     distribution-if : (o p : Option Ty) (d : Term) → ((u : Ty) → o ≡ Some u → p ≡ Some u) → IsDistributionOver g few o d → IsDistributionOver g many p d
     distribution-if None p d f h = absurd h

@@ -57,23 +57,30 @@ Takes c [] t = Unit {0}
 Takes c (x ∷ []) t = type_of c x ≡ Some t
 Takes c (x ∷ y ∷ xs) t = option_map ty.Tuple (types_of c (x ∷ y ∷ xs)) ≡ Some t
 
--- What may stand in an expression of a program: no quantifier, no judgment and no probability, and every read is one of
--- a variable at its type, in the memory of the program.
+-- What may stand in an expression of a program: no judgment, no probability, and no quantifier over memories or modules; every
+-- read is one of a variable at its type, in the memory of the program; and the type of a read, that of an operator's result and
+-- that of what a quantifier binds speak of no module's globals. An adversary may so quantify and sum over values, also where the
+-- language has no such expressions.
 abbrev pub IsProgramHead : Names → Head → Ty → Type 0
 IsProgramHead c (head.Lit v) t = Unit {0}
-IsProgramHead c (head.Read (read.Program x Own)) t = type_of c x ≡ Some t
+IsProgramHead c (head.Whole n) t = Unit {0}
+IsProgramHead c (head.Read (read.Program x Own)) t = IsGlobless t × (type_of c x ≡ Some t)
 IsProgramHead c (head.Bound i) t = Unit {0}
-IsProgramHead c (head.Builtin op) t = Unit {0}
+IsProgramHead c (head.Builtin op) t = IsGlobless t
 IsProgramHead c (head.User n) t = Unit {0}
+IsProgramHead c (head.All u) t = IsGlobless u
+IsProgramHead c (head.Some u) t = IsGlobless u
+IsProgramHead c head.Mu t = Unit {0}
+IsProgramHead c (head.Sum q) t = Unit {0}
 IsProgramHead c (head.Weights ps) t = Unit {0}
 IsProgramHead c head.Map t = Unit {0}
 IsProgramHead c head.Restrict t = Unit {0}
 IsProgramHead c _ t = ⊥
 
--- An expression of a program. No type in it speaks of a module's globals.
+-- an expression of a program
 abbrev mutual
   pub IsExpression : Names → Term → Type 0
-  IsExpression c (Term' b (more_of-Head h end_of-Head) n args t) = IsGlobless t × IsProgramHead c h t × AreExpressions c args
+  IsExpression c (Term' b (more_of-Head h end_of-Head) n args t) = IsProgramHead c h t × AreExpressions c args
 
   pub AreExpressions : {n : _} → Names → Row_of-Term n → Type 0
   AreExpressions c end_of-Term = Unit {0}
@@ -84,9 +91,9 @@ abbrev pub IsValueOf : Types → Ty → Meaning → Type 0
 IsValueOf ts t (finite v) = has ts t v ≡ true
 IsValueOf ts t _ = ⊥
 
--- a well-typed expression: in each state it has a value of its type
+-- a well-typed expression: in each state it has a value of its type, which speaks of no module's globals
 abbrev pub IsTypedTerm : Setting → Names → Term → Type 0
-IsTypedTerm g c e = IsExpression c e × ((s : State) → IsValueOf g.types (written_type e) (val g quiet e s))
+IsTypedTerm g c e = IsExpression c e × ((s : State) → IsValueOf g.types (written_type e) (val g quiet e s)) × IsGlobless (written_type e)
 
 -- a test
 abbrev pub IsTest : Setting → Names → Term → Type 0

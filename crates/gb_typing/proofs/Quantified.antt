@@ -38,7 +38,6 @@ use Rattle.gb_typing.specs.Fits.{IsSettingOf, IsStateOf}
 use Rattle.gb_typing.specs.Puts.{IsTypedPut, Readable, reading, IsTypedWrite}
 use Rattle.gb_typing.specs.Changes.{IsLeaf, Leads, Made}
 use Rattle.gb_typing.proofs.Both.{both, within_both}
-use Rattle.gb_typing.proofs.Fitting.{fits_within}
 use Rattle.gb_typing.proofs.Formed.{formed}
 use Rattle.gb_typing.proofs.Puts.{leads_written, stays_written}
 use Rattle.gb_typing.proofs.Changed.{changed}

@@ -8,7 +8,7 @@ use Rattle.gb_types.specs.Numbering.{Numbering}
 use Rattle.gb_terms.specs.declared.decl.TypedName.{TypedName}
 use Rattle.gb_terms.specs.declared.module.Mexp.{Mexp}
 use Rattle.gb_terms.specs.declared.module.Mexp.TheVariants.{Name as named, Apply'}
-use Rattle.gb_terms.specs.declared.term.Term.{Term, Term', end_of-Head, more_of-Head}
+use Rattle.gb_terms.specs.declared.term.Term.{Term}
 use Rattle.gb_dist.specs.WeightedList.{Every}
 use Rattle.gb_meaning.specs.Names.{Name}
 use Rattle.gb_meaning.specs.Values.{Global, has}
@@ -64,9 +64,6 @@ module _ (g h : Setting) (a : SameBasis g h) where
   expression-alike : (c : Names) (e : Term) → IsExpression c e → SameTerm g h e
   expression-alike c e k = term_agrees NoName AnyName g h a e (expression-names NoName c e k)
 
-  written-globless : (c : Names) (e : Term) → IsExpression c e → IsGlobless (written_type e)
-  written-globless c (Term' b (more_of-Head hd end_of-Head) n ts t) k = k.0
-
   value-to : (t : Ty) (m : Meaning) → SameValues g.types h.types t → IsValueOf g.types t m → IsValueOf h.types t m
   value-to t (finite v) e k = subst (λ (z : Numbering). z.has v ≡ true) e k
   value-to t (whole i) e k = absurd k
@@ -77,7 +74,8 @@ module _ (g h : Setting) (a : SameBasis g h) where
   typed-term-to c e k = (
     k.0,
     λ s. subst (IsValueOf h.types (written_type e)) (term_same g h e (expression-alike c e k.0) s)
-        (value-to (written_type e) (val g quiet e s) (values-alike (written_type e) (written-globless c e k.0)) (k.1 s)),
+        (value-to (written_type e) (val g quiet e s) (values-alike (written_type e) k.2) (k.1 s)),
+    k.2,
   )
 
   arguments-to : (c : Names) (es : List Term) (ps : List TypedName) → AreArguments g c es ps → AreArguments h c es ps

@@ -46,20 +46,25 @@ module _ (P : Name → Type 0) where
   variable-names c (var.Local x) t e = tt
   variable-names c (var.Glob b) t e = absurd (none-some t e)
 
-  head-names : (c : Names) (hd : Head) (t : Ty) → IsGlobless t → IsProgramHead c hd t → HeadNames P AnyName hd t
-  head-names c (head.Lit v) t e k = tt
-  head-names c (head.Read (read.Program x Own)) t e k = (variable-names c x t k, globless-names t e)
-  head-names c (head.Bound i) t e k = tt
-  head-names c (head.Builtin o) t e k = globless-names t e
-  head-names c (head.User n) t e k = tt
-  head-names c (head.Weights ps) t e k = tt
-  head-names c head.Map t e k = tt
-  head-names c head.Restrict t e k = tt
-  head-names c _ t e k = absurd k
+  head-names : (c : Names) (hd : Head) (t : Ty) → IsProgramHead c hd t → HeadNames P AnyName hd t
+  head-names c (head.Lit v) t k = tt
+  head-names c (head.Whole n) t k = tt
+  head-names c (head.Read (read.Program x Own)) t k = (variable-names c x t k.1, globless-names t k.0)
+  head-names c (head.Bound i) t k = tt
+  head-names c (head.Builtin o) t k = globless-names t k
+  head-names c (head.User n) t k = tt
+  head-names c (head.All u) t k = globless-names u k
+  head-names c (head.Some u) t k = globless-names u k
+  head-names c head.Mu t k = tt
+  head-names c (head.Sum q) t k = tt
+  head-names c (head.Weights ps) t k = tt
+  head-names c head.Map t k = tt
+  head-names c head.Restrict t k = tt
+  head-names c _ t k = absurd k
 
   mutual
     pub expression-names : (c : Names) (e : Term) → IsExpression c e → TermNames P AnyName e
-    expression-names c (Term' b (more_of-Head hd end_of-Head) n ts t) k = (head-names c hd t k.0 k.1, expressions-name c ts k.2)
+    expression-names c (Term' b (more_of-Head hd end_of-Head) n ts t) k = (head-names c hd t k.0, expressions-name c ts k.1)
 
     expressions-name : {n : Count} (c : Names) (ts : Row_of-Term n) → AreExpressions c ts → TermsName P AnyName ts
     expressions-name c end_of-Term k = tt

@@ -24,3 +24,4 @@ pub mod Samplings
 pub mod Alike
 pub mod Following
 pub mod Suits
+pub mod Speaking
