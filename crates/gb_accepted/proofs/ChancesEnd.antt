@@ -29,9 +29,9 @@ use Rattle.gb_prog.specs.Compared.{literal}
 use Rattle.gb_full.specs.Loss.{Loss, nowhere, sampled, called, code_loss, first_loss}
 use Rattle.gb_equiv.specs.Drawn.{clashing}
 use Rattle.gb_full.specs.Lossless.{full, of_rest}
-use Rattle.gb_phoare.specs.Hoare.{at_least_goals, exactly, hoare_row}
-use Rattle.gb_phoare.specs.Rnd.{by_end, rnd_row, unless_clash, without_sampling}
-use Rattle.gb_phoare.specs.Rows.{rule_row}
+use Rattle.gb_pr.specs.Hoare.{at_least_goals, exactly, hoare_row}
+use Rattle.gb_pr.specs.Rnd.{by_end, rnd_row, unless_clash, without_sampling}
+use Rattle.gb_pr.specs.ChanceRows.{rule_row}
 use Rattle.gb_prog.specs.Ends.{KeepsEnds, LoopsEnd}
 use Rattle.gb_accepted.proofs.BodiesEnd.{given_bind}
 use Rattle.gb_accepted.proofs.RelationalEnd.{sampled_ends}

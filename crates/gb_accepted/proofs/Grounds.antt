@@ -53,7 +53,7 @@ use Rattle.gb_loops.specs.While.{IsTypedInvariant, while_row}
 use Rattle.gb_prog.specs.Ends.{Entered, IsSoundLoopRule, IsSoundOnLoops, KeepsEnds, LoopsEnd, ProceduresEnd, SequentEnds}
 use Rattle.gb_equiv.specs.Rows as equiv
 use Rattle.gb_equiv.specs.Rows.{IsTypedRule}
-use Rattle.gb_phoare.specs.Rows as chance_rows
+use Rattle.gb_pr.specs.ChanceRows as chance_rows
 use Rattle.gb_pr.specs.Rows as probability_rows
 use Rattle.gb_call_both.specs.Rows as call_rows
 use Rattle.gb_adv.specs.Rows as abstract_rows

@@ -32,7 +32,7 @@ ghost use Rattle.gb_bodies.specs.Rows as bodies;
 ghost use Rattle.gb_adv.specs.Rows.{abstract_row};
 ghost use Rattle.gb_call_both.specs.Rows as call_rows;
 ghost use Rattle.gb_call_both.specs.Known as of_known;
-ghost use Rattle.gb_phoare.specs.Rows as chance_rows;
+ghost use Rattle.gb_pr.specs.ChanceRows as chance_rows;
 ghost use Rattle.gb_equiv.specs.Rows as equivalences;
 ghost use Rattle.gb_rewrite.specs.Rewriting.{IsUsable, rewrite_answer};
 ghost use Rattle.gb_amb.specs.Uses as uses;

@@ -45,8 +45,8 @@ pub fn accepted_scripts()
     gb_bodies::laws::other_forms();
     gb_equiv::relational_laws::relational_rules();
     gb_equiv::relational_laws::other_goals();
-    gb_phoare::laws::chance_rules();
-    gb_phoare::laws::no_judgments();
+    gb_pr::chance_laws::chance_rules();
+    gb_pr::chance_laws::no_judgments();
     gb_pr::laws::probability_rules();
     gb_call_both::laws::call_rules();
     gb_call_both::laws::other_conclusions();

@@ -27,8 +27,8 @@ use Rattle.gb_typing.specs.Scopes.{IsTypedScope}
 use Rattle.gb_mods.specs.Asked.{asked_by, asked_for, asked_of, oracles_if, signature_of}
 use Rattle.gb_mods.specs.Meant.{meant_by}
 use Rattle.gb_mods.specs.declared.meant.Meant.TheVariants.{Any}
-use Rattle.gb_adversaries.proofs.There.{IsAbstract, abstract_there}
-use Rattle.gb_adversaries.specs.BothAnyOf.{EachPair}
+use Rattle.gb_prog.proofs.There.{IsAbstract, abstract_there}
+use Rattle.gb_prog.specs.BothAnyOf.{EachPair}
 use Rattle.gb_adv.proofs.OracleSignatures.{AreSigned, oracles_signed, params_plain, signature_for, signature_variables}
 use mathlib.Core.Former.{Count}
 

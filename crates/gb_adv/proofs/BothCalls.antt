@@ -42,14 +42,14 @@ use Rattle.gb_typing.specs.Sequents.{of_sequent, IsTypedSequent}
 use Rattle.gb_typing.specs.Typing.{IsForm}
 use Rattle.gb_typing.proofs.ClashFree.{no_share}
 use Rattle.gb_typing.proofs.Globals.{or_false}
-use Rattle.gb_adversaries.specs.BothAnyOf.{AreBothAnyOf, EachPair}
-use Rattle.gb_adversaries.proofs.KeptOff.{kept_off}
-use Rattle.gb_adversaries.proofs.Meanings.{both_mean}
-use Rattle.gb_adversaries.proofs.Signatures.{type_same}
+use Rattle.gb_prog.specs.BothAnyOf.{AreBothAnyOf, EachPair}
+use Rattle.gb_prog.proofs.KeptOff.{kept_off}
+use Rattle.gb_prog.proofs.Meanings.{both_mean}
+use Rattle.gb_prog.proofs.Signatures.{type_same}
 use Rattle.gb_prog.specs.Writes.{DifferIn}
-use Rattle.gb_adversaries.specs.Coupled.{Alike, IsKept}
-use Rattle.gb_adversaries.specs.Kept.{AreKeeping}
-use Rattle.gb_adversaries.proofs.Kept.{abstract_coupled}
+use Rattle.gb_prog.specs.Coupled.{Alike, IsKept}
+use Rattle.gb_prog.specs.Kept.{AreKeeping}
+use Rattle.gb_prog.proofs.Kept.{abstract_coupled}
 use Rattle.gb_call.proofs.Callees.{IsResult}
 use Rattle.gb_adv.specs.Abstract.{AbstractProcedure}
 use Rattle.gb_adv.specs.Oracles.{each_keep_both, writes_of}

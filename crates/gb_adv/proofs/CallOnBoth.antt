@@ -55,9 +55,9 @@ use Rattle.gb_typing.proofs.Forms.{and_typed, and_use}
 use Rattle.gb_typing.proofs.Given.{refused_at, refused_given, sound_given_in}
 use Rattle.gb_typing.proofs.Spared.{spared_variables, spared_within}
 use Rattle.gb_typing.proofs.Variables.{variable_finite}
-use Rattle.gb_adversaries.proofs.KeptOff.{kept_off}
-use Rattle.gb_adversaries.proofs.Signatures.{type_variables}
-use Rattle.gb_adversaries.proofs.There.{abstract_there}
+use Rattle.gb_prog.proofs.KeptOff.{kept_off}
+use Rattle.gb_prog.proofs.Signatures.{type_variables}
+use Rattle.gb_prog.proofs.There.{abstract_there}
 use Rattle.gb_prog.specs.AllValues.{in_memory}
 use Rattle.gb_prog.specs.Writes.{AreIn, TypedVariable, variables}
 use Rattle.gb_prog.proofs.Couplings.{runs_sequence}

@@ -51,8 +51,8 @@ use Rattle.gb_typing.proofs.Given.{refused_given, sound_given_in}
 use Rattle.gb_typing.proofs.Runs.{run_append}
 use Rattle.gb_typing.proofs.Spared.{Clear}
 use Rattle.gb_typing.proofs.Variables.{variable_finite}
-use Rattle.gb_adversaries.proofs.KeptOff.{kept_off}
-use Rattle.gb_adversaries.proofs.Meanings.{means_there}
+use Rattle.gb_prog.proofs.KeptOff.{kept_off}
+use Rattle.gb_prog.proofs.Meanings.{means_there}
 use Rattle.gb_prog.specs.Writes.{DifferIn, TypedVariable, AreIn, variables}
 use Rattle.gb_prog.proofs.Likely.{FollowsAt}
 use Rattle.gb_call.specs.Call.{unless_clash}
@@ -66,7 +66,7 @@ use Rattle.gb_call.proofs.LastCalls.{IsCalled}
 use Rattle.gb_call.proofs.Unwritten.{procedure_left}
 use Rattle.gb_adv.specs.Abstract.{AbstractCall, AbstractProcedure, abstract_call}
 use Rattle.gb_adv.specs.Call.{before_call, by_written, on_one, one_goals, outcome, read_after}
-use Rattle.gb_adversaries.specs.Kept.{IsKeeping}
+use Rattle.gb_prog.specs.Kept.{IsKeeping}
 use Rattle.gb_adv.specs.Oracles.{each_keeps, meeting}
 use Rattle.gb_adv.proofs.AskedTypes.{asked_alike}
 use Rattle.gb_adv.proofs.Called.{each_outcome, knows}
@@ -74,9 +74,9 @@ use Rattle.gb_adv.proofs.Called as called
 use Rattle.gb_adv.proofs.Found.{IsFound, IsFoundCall, call_found}
 use Rattle.gb_adv.proofs.KeptForms.{over_locals}
 use Rattle.gb_adv.proofs.KeptOracles.{each_kept}
-use Rattle.gb_adversaries.proofs.Kept.{abstract_kept}
-use Rattle.gb_adversaries.proofs.Meanings.{both_mean}
-use Rattle.gb_adversaries.proofs.Signatures.{type_variables}
+use Rattle.gb_prog.proofs.Kept.{abstract_kept}
+use Rattle.gb_prog.proofs.Meanings.{both_mean}
+use Rattle.gb_prog.proofs.Signatures.{type_variables}
 use Rattle.gb_adv.proofs.Left.{none_meets}
 use Rattle.gb_adv.proofs.OracleGoals.{IsKnownType, all_parts, each_keeps_typed, first_known}
 use Rattle.gb_adv.proofs.Property.{property, property_apart, property_is}

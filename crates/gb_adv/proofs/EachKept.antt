@@ -21,10 +21,10 @@ use Rattle.gb_typing.specs.Meaning.{Stands}
 use Rattle.gb_typing.specs.Rules.{outermost}
 use Rattle.gb_typing.specs.Typing.{IsForm}
 use Rattle.gb_typing.proofs.Given.{refused_given}
-use Rattle.gb_adversaries.specs.BothAnyOf.{EachPair}
+use Rattle.gb_prog.specs.BothAnyOf.{EachPair}
 use Rattle.gb_call.specs.Call.{in_front}
-use Rattle.gb_adversaries.specs.Coupled.{Leaves}
-use Rattle.gb_adversaries.specs.Kept.{AreKeeping}
+use Rattle.gb_prog.specs.Coupled.{Leaves}
+use Rattle.gb_prog.specs.Kept.{AreKeeping}
 use Rattle.gb_adv.specs.Oracles.{each_keep_both, keep_both, with_both}
 use Rattle.gb_adv.specs.OwnNames.{own_names}
 use Rattle.gb_adv.proofs.KeptPairs.{oracle_there, pair_keeps}

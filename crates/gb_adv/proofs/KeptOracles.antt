@@ -16,8 +16,8 @@ use Rattle.gb_typing.specs.Fits.{IsSettingOf}
 use Rattle.gb_typing.specs.Meaning.{Stands}
 use Rattle.gb_typing.specs.Rules.{outermost}
 use Rattle.gb_typing.specs.Typing.{IsForm}
-use Rattle.gb_adversaries.specs.Judged.{IsJudgedToKeep}
-use Rattle.gb_adversaries.specs.Kept.{IsKeeping, IsThere}
+use Rattle.gb_prog.specs.OracleJudged.{IsJudgedToKeep}
+use Rattle.gb_prog.specs.Kept.{IsKeeping, IsThere}
 use Rattle.gb_adv.specs.Oracles.{each_keeps, keeps}
 use Rattle.gb_adv.proofs.KeptPairs.{oracle_there}
 use Rattle.gb_adv.proofs.OracleGoals.{IsKnownType}

@@ -24,9 +24,9 @@ use Rattle.gb_typing.specs.Rules.{outermost}
 use Rattle.gb_typing.specs.Scopes.{HaveOwnNames}
 use Rattle.gb_typing.specs.Typing.{IsForm}
 use Rattle.gb_typing.proofs.Forms.{and_use}
-use Rattle.gb_adversaries.specs.Coupled.{Leaves}
-use Rattle.gb_adversaries.specs.Judged.{AreJudgedAlike}
-use Rattle.gb_adversaries.specs.Kept.{AreKeeping, IsThere}
+use Rattle.gb_prog.specs.Coupled.{Leaves}
+use Rattle.gb_prog.specs.OracleJudged.{AreJudgedAlike}
+use Rattle.gb_prog.specs.Kept.{AreKeeping, IsThere}
 use Rattle.gb_adv.specs.Equations.{led_by, same_params, same_result}
 use Rattle.gb_adv.specs.Oracles.{keep_both}
 use Rattle.gb_adv.proofs.Agreed.{held_in, led_make, params_make, same_is}

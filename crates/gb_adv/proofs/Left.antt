@@ -32,15 +32,15 @@ use Rattle.gb_mods.specs.Exclusions.{exclusions}
 use Rattle.gb_mods.specs.Meant.{meant_by}
 use Rattle.gb_mods.specs.declared.meant.Meant.TheVariants.{Any}
 use Rattle.gb_mods.proofs.Closed.{IsIn}
-use Rattle.gb_adversaries.specs.AnyOf.{IfOneOf, IsAnyOf}
-use Rattle.gb_adversaries.specs.Means.{Means}
-use Rattle.gb_adversaries.proofs.Carried.{each_carried_by}
-use Rattle.gb_adversaries.proofs.KeptOff.{kept_off}
-use Rattle.gb_adversaries.proofs.Meanings.{means_there}
-use Rattle.gb_adversaries.proofs.Writing.{writes_of_any}
+use Rattle.gb_prog.specs.AnyOf.{IfOneOf, IsAnyOf}
+use Rattle.gb_prog.specs.Means.{Means}
+use Rattle.gb_prog.proofs.Carried.{each_carried_by}
+use Rattle.gb_prog.proofs.KeptOff.{kept_off}
+use Rattle.gb_prog.proofs.Meanings.{means_there}
+use Rattle.gb_prog.proofs.Writing.{writes_of_any}
 use Rattle.gb_call.proofs.Conditions.{AllFalse, nothing_filtered, nothing_least}
 use Rattle.gb_call.proofs.Unwritten.{reached_left}
-use Rattle.gb_adversaries.specs.Coupled.{Leaves}
+use Rattle.gb_prog.specs.Coupled.{Leaves}
 use Rattle.gb_adv.specs.Oracles.{meeting, meeting_both, writes_of}
 
 -- Where none is found to clash, none clashes.

@@ -44,12 +44,12 @@ use Rattle.gb_typing.proofs.Forms.{and_make, and_typed, and_use, implies_typed, 
 use Rattle.gb_typing.proofs.Given.{refused_given}
 use Rattle.gb_typing.proofs.Together.{goal_together}
 use Rattle.gb_typing.proofs.Variables.{variable_finite}
-use Rattle.gb_adversaries.proofs.There.{abstract_named}
+use Rattle.gb_prog.proofs.There.{abstract_named}
 use Rattle.gb_bodies.specs.Conseq.{pair_leads}
 use Rattle.gb_call.specs.Call.{unless_clash}
 use Rattle.gb_call.proofs.After.{all_append}
 use Rattle.gb_adv.specs.Abstract.{AbstractProcedure, abstract_procedure, same_abstract}
-use Rattle.gb_adversaries.specs.BothAnyOf.{EachPair}
+use Rattle.gb_prog.specs.BothAnyOf.{EachPair}
 use Rattle.gb_adv.specs.Equations.{followed_by, same_owner, same_params, same_result}
 use Rattle.gb_adv.specs.Oracles.{each_keep_both, meeting_both, writes_of}
 use Rattle.gb_adv.specs.OwnNames.{own_names}
@@ -62,7 +62,7 @@ use Rattle.gb_adv.proofs.EquationsTyped.{followed_typed, owner_typed, own_types,
 use Rattle.gb_adv.proofs.Found.{AreOne, IsFound, are_one, procedure_found}
 use Rattle.gb_adv.proofs.KeptForms.{over_both_locals}
 use Rattle.gb_adv.proofs.KeptPairs.{held_params}
-use Rattle.gb_adversaries.proofs.Signatures.{IsOfVariables, type_variables}
+use Rattle.gb_prog.proofs.Signatures.{IsOfVariables, type_variables}
 use Rattle.gb_adv.proofs.Left.{MeetNone, both_meet_none}
 use Rattle.gb_adv.proofs.OracleGoals.{all_parts, each_keep_both_typed, finite_types, given_before, own}
 

@@ -39,12 +39,12 @@ use Rattle.gb_typing.specs.Typing.{IsForm, after, before}
 use Rattle.gb_typing.proofs.Ambient.{one_meaning, one_typed}
 use Rattle.gb_typing.proofs.Forms.{implies_typed, implies_use}
 use Rattle.gb_typing.proofs.Given.{refused_given, sound_given_in}
-use Rattle.gb_adversaries.proofs.KeptOff.{kept_off}
+use Rattle.gb_prog.proofs.KeptOff.{kept_off}
 use Rattle.gb_bodies.specs.Conseq.{leads}
 use Rattle.gb_call.specs.Call.{unless_clash}
 use Rattle.gb_call.proofs.After.{all_append}
 use Rattle.gb_adv.specs.Abstract.{AbstractProcedure, abstract_procedure}
-use Rattle.gb_adversaries.specs.Kept.{IsKeeping}
+use Rattle.gb_prog.specs.Kept.{IsKeeping}
 use Rattle.gb_adv.specs.Oracles.{each_keeps, meeting}
 use Rattle.gb_adv.specs.Proc.{on_one, one_goals}
 use Rattle.gb_adv.proofs.AskedTypes.{asked_alike}
@@ -52,8 +52,8 @@ use Rattle.gb_adv.proofs.Called.{knows}
 use Rattle.gb_adv.proofs.Found.{IsFound, procedure_found}
 use Rattle.gb_adv.proofs.KeptForms.{over_locals}
 use Rattle.gb_adv.proofs.KeptOracles.{each_kept}
-use Rattle.gb_adversaries.proofs.Kept.{abstract_kept}
-use Rattle.gb_adversaries.proofs.Meanings.{both_mean}
+use Rattle.gb_prog.proofs.Kept.{abstract_kept}
+use Rattle.gb_prog.proofs.Meanings.{both_mean}
 use Rattle.gb_adv.proofs.Left.{none_meets}
 use Rattle.gb_adv.proofs.OracleGoals.{IsKnownType, all_parts, each_keeps_typed, first_known}
 use Rattle.gb_adv.proofs.Property.{property, property_apart, property_is}

@@ -33,7 +33,7 @@ use Rattle.gb_typing.proofs.Substituted.{reads_any}
 use Rattle.gb_prog.specs.Writes.{DifferIn}
 use Rattle.gb_prog.proofs.Writes.{apart_read}
 use Rattle.gb_call.proofs.After.{same_form}
-use Rattle.gb_adversaries.specs.KeptProperty.{IsApartFrom}
+use Rattle.gb_prog.specs.KeptProperty.{IsApartFrom}
 use Rattle.gb_adv.proofs.OffOwner.{no_clash}
 
 not_true : (b : Bool) → not b ≡ true → b ≡ false

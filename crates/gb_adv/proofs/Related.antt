@@ -34,7 +34,7 @@ use Rattle.gb_prog.specs.Writes.{DifferIn}
 use Rattle.gb_prog.proofs.Writes.{apart_read}
 use Rattle.gb_prog.proofs.AssignedForms.{in_both}
 use Rattle.gb_call_both.proofs.Sided.{same_form}
-use Rattle.gb_adversaries.specs.Coupled.{IsKept}
+use Rattle.gb_prog.specs.Coupled.{IsKept}
 
 module _ (b : Context) (g : Setting) (fits : IsSettingOf (outermost b) g) (j : Judge) (fair : IsFair g j) (v : State) (i : Term) (w : IsForm (reframed (outermost b) None (Some []) (Some [])) i) where
   abbrev c : Context

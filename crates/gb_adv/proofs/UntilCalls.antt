@@ -49,17 +49,17 @@ use Rattle.gb_typing.specs.Sequents.{of_sequent, IsTypedSequent}
 use Rattle.gb_typing.specs.Typing.{IsForm}
 use Rattle.gb_typing.proofs.Forms.{and_make}
 use Rattle.gb_typing.proofs.Spared.{Clear}
-use Rattle.gb_adversaries.specs.BothAnyOf.{AreBothAnyOf, EachPair}
-use Rattle.gb_adversaries.proofs.KeptOff.{kept_off}
-use Rattle.gb_adversaries.proofs.Meanings.{both_mean}
+use Rattle.gb_prog.specs.BothAnyOf.{AreBothAnyOf, EachPair}
+use Rattle.gb_prog.proofs.KeptOff.{kept_off}
+use Rattle.gb_prog.proofs.Meanings.{both_mean}
 use Rattle.gb_prog.specs.Writes.{DifferIn}
 use Rattle.gb_full.specs.Loss.{code_loss, nowhere}
 use Rattle.gb_full.proofs.Full.{routine_full}
-use Rattle.gb_adversaries.specs.Coupled.{Alike, IsKept}
-use Rattle.gb_adversaries.specs.KeptProperty.{IsApartFrom}
-use Rattle.gb_adversaries.specs.Until as open_until
-use Rattle.gb_adversaries.specs.Kept.{AreKeepingUntil}
-use Rattle.gb_adversaries.proofs.Kept.{abstract_until}
+use Rattle.gb_prog.specs.Coupled.{Alike, IsKept}
+use Rattle.gb_prog.specs.KeptProperty.{IsApartFrom}
+use Rattle.gb_prog.specs.Until as open_until
+use Rattle.gb_prog.specs.Kept.{AreKeepingUntil}
+use Rattle.gb_prog.proofs.Kept.{abstract_until}
 use Rattle.gb_call.proofs.Callees.{IsResult}
 use Rattle.gb_call_both.proofs.OnSide.{form_on}
 use Rattle.gb_adv.specs.Abstract.{AbstractProcedure}

@@ -27,7 +27,7 @@ use Rattle.gb_typing.proofs.Forms.{and_typed}
 use Rattle.gb_typing.proofs.Given.{refused_at, refused_given}
 use Rattle.gb_typing.proofs.Variables.{variable_finite}
 use Rattle.gb_call.specs.Call.{in_front}
-use Rattle.gb_adversaries.specs.BothAnyOf.{EachPair}
+use Rattle.gb_prog.specs.BothAnyOf.{EachPair}
 use Rattle.gb_adv.specs.Equations.{led_by, same_params, same_result}
 use Rattle.gb_adv.specs.Oracles.{behind, each_keep_both, each_keeps, keep_both, keeps, with_both}
 use Rattle.gb_adv.specs.OwnNames.{own_names}

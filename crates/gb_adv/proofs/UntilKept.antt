@@ -38,13 +38,13 @@ use Rattle.gb_typing.specs.Scopes.{HaveOwnNames}
 use Rattle.gb_typing.specs.Typing.{IsForm}
 use Rattle.gb_typing.proofs.Forms.{and_make, and_use, implies_use, not_make}
 use Rattle.gb_typing.proofs.Given.{refused_given}
-use Rattle.gb_adversaries.specs.BothAnyOf.{EachPair}
+use Rattle.gb_prog.specs.BothAnyOf.{EachPair}
 use Rattle.gb_call.specs.Call.{in_front}
 use Rattle.gb_call_both.proofs.OnSide.{means_on}
-use Rattle.gb_adversaries.specs.Coupled.{Leaves}
-use Rattle.gb_adversaries.specs.Judged.{AreJudgedUntil, IsJudgedToKeep}
-use Rattle.gb_adversaries.specs.Until as open_until
-use Rattle.gb_adversaries.specs.Kept.{AreKeepingUntil, IsThere}
+use Rattle.gb_prog.specs.Coupled.{Leaves}
+use Rattle.gb_prog.specs.OracleJudged.{AreJudgedUntil, IsJudgedToKeep}
+use Rattle.gb_prog.specs.Until as open_until
+use Rattle.gb_prog.specs.Kept.{AreKeepingUntil, IsThere}
 use Rattle.gb_adv.specs.Equations.{followed_by, same_params, same_result}
 use Rattle.gb_adv.specs.Oracles.{keeps}
 use Rattle.gb_adv.specs.OwnNames.{own_names}

@@ -57,7 +57,7 @@ use Rattle.gb_typing.proofs.Lists.{first_part, typed_drop}
 use Rattle.gb_typing.proofs.InMemory.{test_typed as form_typed, located_value}
 use Rattle.gb_typing.proofs.Runs.{run_cut, denominator_cut}
 use Rattle.gb_mods.specs.Exclusions.{exclusions}
-use Rattle.gb_adversaries.proofs.KeptOff.{kept_off}
+use Rattle.gb_prog.proofs.KeptOff.{kept_off}
 use Rattle.gb_prog.specs.Straight.{IsStraight, RowIsStraight, AreStraight, ended, after}
 use Rattle.gb_prog.proofs.Straight.{ended_then, straight_run, straight_denominator}
 use Rattle.gb_prog.specs.Assigned.{assigned_form, clashing}

@@ -76,7 +76,7 @@ use Rattle.gb_prog.proofs.Likely.{FollowsAt}
 use Rattle.gb_full.specs.Lossless.{of_rest}
 use Rattle.gb_mods.specs.Exclusions.{exclusions}
 use Rattle.gb_mods.specs.Written.{written}
-use Rattle.gb_adversaries.proofs.KeptOff.{kept_off}
+use Rattle.gb_prog.proofs.KeptOff.{kept_off}
 use Rattle.gb_call.specs.LastCall.{LastCall, last_call}
 use Rattle.gb_call.specs.Outcomes.{Outcome, after_call, after_where, clash_after, is_among, is_read, of_arguments, reads_result}
 use Rattle.gb_call.specs.Written.{with_types}

@@ -60,7 +60,7 @@ use Rattle.gb_prog.specs.Calls.{called_from}
 use Rattle.gb_prog.specs.Writes.{DifferIn, TypedVariable, AreIn, variables}
 use Rattle.gb_prog.proofs.Calls.{arguments_typed as values_typed, called_outcomes}
 use Rattle.gb_mods.specs.Written.{written}
-use Rattle.gb_adversaries.proofs.Meanings.{means_there}
+use Rattle.gb_prog.proofs.Meanings.{means_there}
 use Rattle.gb_call.specs.LastCall.{LastCall, last_call}
 use Rattle.gb_call.specs.Written.{global_type, typed_before, with_types}
 use Rattle.gb_call.proofs.Globals.{variable_there}

@@ -31,11 +31,11 @@ use Rattle.gb_mods.specs.Written.{row_targets, targets, written, written_by, wri
 use Rattle.gb_mods.specs.declared.meant.Meant.{Meant}
 use Rattle.gb_mods.specs.declared.meant.Meant.TheVariants.{Unknown, Declared, Any}
 use Rattle.gb_mods.proofs.Closed.{AreFollowed, IsIn, all_closed}
-use Rattle.gb_adversaries.specs.AnyOf.{IfOneOf}
-use Rattle.gb_adversaries.specs.Carried.{EachCarried, EachCarriedBy}
-use Rattle.gb_adversaries.specs.Means.{Means}
-use Rattle.gb_adversaries.proofs.Carried.{each_procedure}
-use Rattle.gb_adversaries.proofs.Writing.{writes_of_any}
+use Rattle.gb_prog.specs.AnyOf.{IfOneOf}
+use Rattle.gb_prog.specs.Carried.{EachCarried, EachCarriedBy}
+use Rattle.gb_prog.specs.Means.{Means}
+use Rattle.gb_prog.proofs.Carried.{each_procedure}
+use Rattle.gb_prog.proofs.Writing.{writes_of_any}
 use mathlib.Core.Former.{Count}
 
 -- what is spared by several lists of variables

@@ -66,7 +66,7 @@ use Rattle.gb_prog.proofs.AssignedForms.{in_both}
 use Rattle.gb_call.specs.Call.{Callee, callee as callee_if, callee_of, if_few, left_of, outcome as outcome_of, unless_clash}
 use Rattle.gb_mods.specs.Exclusions.{exclusions}
 use Rattle.gb_mods.specs.Written.{written}
-use Rattle.gb_adversaries.proofs.KeptOff.{kept_off}
+use Rattle.gb_prog.proofs.KeptOff.{kept_off}
 use Rattle.gb_call.specs.LastCall.{LastCall, last_call}
 use Rattle.gb_call.specs.Outcomes.{Outcome, clashing_after, is_among, is_read, reads_result}
 use Rattle.gb_call.specs.Written.{with_types}

@@ -6,12 +6,12 @@ use Rattle.std.proofs.lemmas.List.{at_drop_more, drop_all}
 use Rattle.std.proofs.lemmas.Option.{none-some, same_Some}
 use Rattle.gb_core.specs.declared.ty.Ty.{Ty}
 use Rattle.gb_core.specs.declared.value.Value.{Value}
-use Rattle.gb_types.specs.Numbering.{Numbering, are_entries, is_entry, is_many, is_tuple, key_of, parts_of, tuples, value_of}
-use Rattle.gb_types.specs.Types.{all_true, is_finite, numbering, size_of}
-use Rattle.gb_types.proofs.Capped.{large_power}
-use Rattle.gb_types.proofs.Lawful.{Lawful}
-use Rattle.gb_types.proofs.Orders.{lawful}
-use Rattle.gb_types.proofs.Steps.{factors}
+use Rattle.gb_core.specs.Numbering.{Numbering, are_entries, is_entry, is_many, is_tuple, key_of, parts_of, tuples, value_of}
+use Rattle.gb_core.specs.Types.{all_true, is_finite, numbering, size_of}
+use Rattle.gb_core.proofs.Capped.{large_power}
+use Rattle.gb_core.proofs.Lawful.{Lawful}
+use Rattle.gb_core.proofs.Orders.{lawful}
+use Rattle.gb_core.proofs.Steps.{factors}
 use Rattle.gb_closing.specs.Entries.{behind_key}
 
 -- nothing is a value of a type without values

@@ -1,9 +1,9 @@
 -- Operations on exact fractions, each with its refusal, and which multipliers may stand.
 use Rattle.std.specs.Prelude.{Bool, false, not, ◌&&◌, ◌||◌, int_lt, pos, Option, Some, None, Result, Ok, Err}
 use Rattle.gb_core.specs.declared.refusal.Why.TheVariants as why
-use Rattle.gb_num.specs.declared.whole.Overflow.{Overflow}
-use Rattle.gb_num.specs.Fractions.{Fraction, plus, minus, of_whole, reduced}
-use Rattle.gb_num.specs.Operations.{outcome, plus_steps, minus_steps}
+use Rattle.gb_dist.specs.declared.whole.Overflow.{Overflow}
+use Rattle.gb_dist.specs.Fractions.{Fraction, plus, minus, of_whole, reduced}
+use Rattle.gb_dist.specs.Operations.{outcome, plus_steps, minus_steps}
 use Rattle.gb_goal.specs.Answers.{Answer, nowhere}
 use Rattle.gb_goal.specs.Answers.Answer.{given, refused}
 use Rattle.gb_closing.specs.declared.numbers.Sign.{Sign}

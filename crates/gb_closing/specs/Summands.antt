@@ -1,6 +1,6 @@
 -- Terms with coefficients, and those that a second sum has besides.
 use Rattle.std.specs.Prelude.{List, [], ◌∷◌, ◌++◌}
-use Rattle.gb_num.specs.Fractions.{Fraction}
+use Rattle.gb_dist.specs.Fractions.{Fraction}
 use Rattle.gb_terms.specs.declared.term.Term.{Term}
 use Rattle.gb_goal.specs.Answers.{Answer, ◌>>=◌}
 use Rattle.gb_goal.specs.Answers.Answer.{given}

@@ -2,13 +2,13 @@
 
 ghost use Rattle.std.specs.Prelude.{◌≡◌, ◌+◌, ◌-◌, ◌^◌, ◌&&◌, if◌then◌else◌, nat_lt};
 ghost use Rattle.gb_core.specs.declared.value.Card.TheVariants.{Exact, Above};
-ghost use Rattle.gb_types.specs.Types.{card_of};
+ghost use Rattle.gb_core.specs.Types.{card_of};
 ghost use Rattle.gb_closing.specs.Counted.{is_tried};
 
+use gb_core::card::card;
+use gb_core::size::MANY;
 use gb_core::ty::Ty;
 use gb_core::value::Card;
-use gb_types::card::card;
-use gb_types::size::MANY;
 
 /// The largest width of a claim that is tried, and the number of assignments at most.
 pub const MOST: u64 = 1 << 20;

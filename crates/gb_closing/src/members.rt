@@ -1,14 +1,14 @@
 // Whether values are of a type.
 
 ghost use Rattle.std.specs.Prelude.{◌≡◌, ◌^◌, ◌<◌, ◌&&◌, ◌==◌, true, map, Some, None};
-ghost use Rattle.gb_types.specs.Numbering.{are_entries, choices, is_entry, is_many, is_option, is_tuple, numbers, tuples};
-ghost use Rattle.gb_types.specs.Types.{all_true, is_finite, numbering, size_of};
+ghost use Rattle.gb_core.specs.Numbering.{are_entries, choices, is_entry, is_many, is_option, is_tuple, numbers, tuples};
+ghost use Rattle.gb_core.specs.Types.{all_true, is_finite, numbering, size_of};
 ghost use Rattle.gb_closing.specs.Entries.{behind_key};
 
+use gb_core::index::{index, parts};
+use gb_core::size::size;
 use gb_core::ty::Ty;
 use gb_core::value::Value;
-use gb_types::index::{index, parts};
-use gb_types::size::size;
 
 /// Whether a value is a number below another one.
 fn is_below(v: &Value, count: u64) -> bool

@@ -7,7 +7,8 @@ ghost use Rattle.gb_closing.specs.Numbers.{in_range, is_negative, is_proper, may
 
 use gb_core::place::Place;
 use gb_core::refusal::{Refused, Why};
-use gb_num::{Frac, Overflow, add, sub};
+use gb_dist::frac::{Frac, add, sub};
+use gb_dist::whole::Overflow;
 
 /// A sum or a difference.
 #[derive(Clone, Copy)]

@@ -6,7 +6,7 @@ ghost use Rattle.gb_closing.specs.Summands.{behind, besides};
 
 use crate::numbers::{Sign, operated};
 use gb_core::refusal::Refused;
-use gb_num::Frac;
+use gb_dist::frac::Frac;
 use gb_terms::term::Term;
 use sqlite_items::Items;
 use std::alloc::{AllocError, Global};

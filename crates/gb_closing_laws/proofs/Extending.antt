@@ -5,7 +5,7 @@ use Rattle.gb_core.specs.declared.ty.Ty.{Ty, Row_of-Ty, end_of-Ty, more_of-Ty}
 use Rattle.gb_core.specs.declared.ty.Ty.TheVariants as ty
 use Rattle.gb_core.specs.declared.value.Value.{Value}
 use Rattle.gb_core.specs.declared.value.Value.TheVariants.{Many}
-use Rattle.gb_types.specs.Numbering.{parts_of, is_tuple, is_option}
+use Rattle.gb_core.specs.Numbering.{parts_of, is_tuple, is_option}
 use Rattle.gb_meaning.specs.Names.{Name}
 use Rattle.gb_meaning.specs.Values.{Types, values, has}
 use Rattle.gb_meaning.proofs.Numberings.{lawful}

@@ -3,7 +3,7 @@ use Rattle.std.proofs.Common.{◌≡◌, ℕ, ◌/◌, ◌%◌, Bool, true, fals
 use Rattle.std.proofs.Math.Nat.{zero-div, zero-mod}
 use Rattle.gb_core.specs.declared.ty.Ty.{Ty, Row_of-Ty, end_of-Ty, more_of-Ty}
 use Rattle.gb_core.specs.declared.ty.Ty.TheVariants as ty
-use Rattle.gb_types.specs.Numbering.{Numbering, tuples, tuple_at}
+use Rattle.gb_core.specs.Numbering.{Numbering, tuples, tuple_at}
 use Rattle.gb_meaning.specs.Names.{Name}
 use Rattle.gb_meaning.specs.Values.{Types, values, first}
 use Rattle.gb_meaning.specs.Globs.{IsGlobless}

@@ -1,11 +1,11 @@
 -- The numbers that operations give.
 use Rattle.std.proofs.Common.{◌≡◌, ℕ, zero, suc, ◌*◌, ◌<◌, ◌==◌, true, false, pos, negsuc, List, Option, Some, None, refl, ap, subst, arith}
 use Rattle.std.proofs.lemmas.Bool.{false≢true, and_parts, eqb-true}
-use Rattle.gb_num.specs.declared.whole.Overflow.{Overflow}
-use Rattle.gb_num.specs.Fractions as fractions
-use Rattle.gb_num.specs.Fractions.{Fraction, reduced}
-use Rattle.gb_num.specs.Operations.{Operation, first_overflow, unless, outcome, plus_steps, minus_steps, times_steps, over_steps}
-use Rattle.gb_num.proofs.Lowest.{IsSame-reduced, IsLowest-reduced}
+use Rattle.gb_dist.specs.declared.whole.Overflow.{Overflow}
+use Rattle.gb_dist.specs.Fractions as fractions
+use Rattle.gb_dist.specs.Fractions.{Fraction, reduced}
+use Rattle.gb_dist.specs.Operations.{Operation, first_overflow, unless, outcome, plus_steps, minus_steps, times_steps, over_steps}
+use Rattle.gb_dist.proofs.Lowest.{IsSame-reduced, IsLowest-reduced}
 use Rattle.gb_goal.specs.Answers.{Answer, ◌>>=◌}
 use Rattle.gb_goal.specs.Answers.Answer.{given, refused}
 use Rattle.gb_closing.specs.declared.numbers.Sign.{Sign}

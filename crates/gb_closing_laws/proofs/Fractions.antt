@@ -3,8 +3,8 @@ use Rattle.std.proofs.Common.{◌≡◌, ℕ, zero, suc, ◌+◌, ◌*◌, ◌<�
 use Rattle.std.proofs.Math.Nat.{mul-pos}
 use Rattle.std.proofs.lemmas.Int.{ints}
 use borrow.Author.Differences.{up, down}
-use Rattle.gb_num.specs.Fractions as fractions
-use Rattle.gb_num.specs.Fractions.{Fraction, IsSame}
+use Rattle.gb_dist.specs.Fractions as fractions
+use Rattle.gb_dist.specs.Fractions.{Fraction, IsSame}
 use Rattle.gb_closing_laws.proofs.Numbers.{Number, Same, nought, plus, times, opposite, same_sym, same_trans, same_plus, same_times, same_opposite}
 
 -- a fraction as a number; one without a denominator counts as 0

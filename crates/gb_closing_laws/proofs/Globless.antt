@@ -9,7 +9,7 @@ use Rattle.gb_core.specs.declared.ty.Ty.TheOpen as layer
 use Rattle.gb_core.specs.declared.ty.Ty.TheBlock as B
 use Rattle.gb_core.specs.declared.ty.Ty.TheViews.{roll-out-Ty}
 use Rattle.gb_core.specs.declared.ty.Ty.TheFolds.{fold-roll-Ty}
-use Rattle.gb_types.specs.Types.{finite_step, is_finite, all_true}
+use Rattle.gb_core.specs.Types.{finite_step, is_finite, all_true}
 use Rattle.gb_meaning.specs.Names.{Name}
 use Rattle.gb_meaning.specs.Globs.{IsGlobless, EachGlobIn}
 use Rattle.gb_labels.specs.Things.{holds_layer, holds_glob, both_names, modules_of, modules_of_all}

@@ -1,7 +1,7 @@
 -- What linear forms are worth, where each term is worth a number.
 use Rattle.std.proofs.Common.{◌≡◌, ◌<◌, Bool, true, false, if◌then◌else◌, List, [], ◌∷◌, refl, subst, arith}
 use Rattle.std.proofs.lemmas.Bool.{false≢true}
-use Rattle.gb_num.specs.Fractions.{Fraction}
+use Rattle.gb_dist.specs.Fractions.{Fraction}
 use Rattle.gb_terms.specs.declared.term.Term.{Term}
 use Rattle.gb_meaning.proofs.SameTerms.{same_terms}
 use Rattle.gb_goal.specs.Answers.{Answer, ◌>>=◌}

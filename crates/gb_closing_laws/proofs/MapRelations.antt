@@ -3,9 +3,9 @@ use Rattle.std.proofs.Common.{◌≡◌, ◌⊎◌, inl, inr, ℕ, ◌+◌, ◌�
 use Rattle.std.proofs.lemmas.Bool.{false≢true, and_parts, ltb-true, ltb-false}
 use Rattle.gb_core.specs.declared.value.Value.{Value}
 use Rattle.gb_core.specs.declared.value.Value.TheVariants.{Num, Many}
-use Rattle.gb_types.specs.Numbering.{Numbering, parts_in, parts_of, is_many, first_or, second_or, key_of, value_of, are_entries, map_of}
-use Rattle.gb_types.proofs.Lawful.{Lawful, out-Many, Many-parts_of}
-use Rattle.gb_types.proofs.Maps.{Front, front_of}
+use Rattle.gb_core.specs.Numbering.{Numbering, parts_in, parts_of, is_many, first_or, second_or, key_of, value_of, are_entries, map_of}
+use Rattle.gb_core.proofs.Lawful.{Lawful, out-Many, Many-parts_of}
+use Rattle.gb_core.proofs.Maps.{Front, front_of}
 use Rattle.gb_meaning.specs.Values.{value_eq}
 use Rattle.gb_meaning.specs.Operators.{entry_of, entry_set, is_none}
 use Rattle.gb_meaning.proofs.Values.{value_discrete, value_eq-true}

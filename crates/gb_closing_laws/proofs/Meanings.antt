@@ -7,7 +7,7 @@ use Rattle.std.proofs.lemmas.Int.{ints}
 use borrow.Author.Differences.{up, down}
 use Rattle.gb_core.specs.declared.ty.Ty.{Ty}
 use Rattle.gb_core.specs.declared.ty.Ty.TheVariants as ty
-use Rattle.gb_num.specs.Fractions.{Fraction}
+use Rattle.gb_dist.specs.Fractions.{Fraction}
 use Rattle.gb_meaning.specs.Values.{Types}
 use Rattle.gb_meaning.specs.Fractions as m
 use Rattle.gb_meaning.specs.Setting.{Meaning}

@@ -5,8 +5,8 @@ use Rattle.std.proofs.lemmas.Bool.{false≢true, and_parts}
 use Rattle.std.proofs.lemmas.Bool.Decides.{Decides-int_eq}
 use Rattle.gb_core.specs.declared.ty.Ty.{Ty}
 use Rattle.gb_core.specs.declared.ty.Ty.TheVariants as ty
-use Rattle.gb_num.specs.Fractions.{Fraction, of_whole}
-use Rattle.gb_num.specs.Operations.{is_small}
+use Rattle.gb_dist.specs.Fractions.{Fraction, of_whole}
+use Rattle.gb_dist.specs.Operations.{is_small}
 use Rattle.gb_terms.specs.declared.op.Op.TheVariants as op
 use Rattle.gb_terms.specs.declared.term.Term.{Term, Term', Row_of-Term, end_of-Term, more_of-Term, end_of-Head, more_of-Head, out-Term}
 use Rattle.gb_terms.specs.declared.decl.TypedName.{TypedName}

@@ -7,8 +7,8 @@ use Rattle.gb_core.specs.declared.value.Value.{Value}
 use Rattle.gb_core.specs.declared.value.Value.TheVariants.{Many}
 use Rattle.gb_core.specs.declared.var.Var.{Var}
 use Rattle.gb_core.specs.declared.var.Var.TheVariants as var
-use Rattle.gb_types.specs.Numbering.{numbers, parts_in, parts_of, is_many, is_tuple}
-use Rattle.gb_types.proofs.Lawful.{Many-parts_of, out-Many}
+use Rattle.gb_core.specs.Numbering.{numbers, parts_in, parts_of, is_many, is_tuple}
+use Rattle.gb_core.proofs.Lawful.{Many-parts_of, out-Many}
 use Rattle.gb_terms.specs.declared.module.Mexp.TheVariants.{Name as named}
 use Rattle.gb_meaning.specs.Names.{Name}
 use Rattle.gb_meaning.specs.Values.{Global, Types, has, footprint_values}

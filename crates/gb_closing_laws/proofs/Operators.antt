@@ -4,8 +4,8 @@ use Rattle.gb_core.specs.declared.ty.Ty.{Ty, Row_of-Ty, end_of-Ty, more_of-Ty}
 use Rattle.gb_core.specs.declared.ty.Ty.TheVariants as ty
 use Rattle.gb_core.specs.declared.value.Value.{Value}
 use Rattle.gb_core.specs.declared.value.Value.TheVariants.{Num, Many}
-use Rattle.gb_types.specs.Numbering.{parts_in, parts_of, first_or, are_entries}
-use Rattle.gb_types.proofs.Lawful.{out-Many}
+use Rattle.gb_core.specs.Numbering.{parts_in, parts_of, first_or, are_entries}
+use Rattle.gb_core.proofs.Lawful.{out-Many}
 use Rattle.gb_dist.specs.WeightedList.{WeightedList, unit, bit}
 use Rattle.gb_terms.specs.declared.op.Op.{Op}
 use Rattle.gb_terms.specs.declared.op.Op.TheVariants as op

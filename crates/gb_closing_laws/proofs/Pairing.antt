@@ -5,8 +5,8 @@ use Rattle.std.proofs.lemmas.Bool.{false≢true}
 use Rattle.std.proofs.lemmas.Bool.Decides.{Decides-eqb}
 use Rattle.std.proofs.lemmas.Map.Steps.{length-le_from_distinct_below, le-length_from_below}
 use Rattle.gb_core.specs.declared.value.Value.{Value}
-use Rattle.gb_types.specs.Numbering.{Numbering}
-use Rattle.gb_types.proofs.Lawful.{Lawful}
+use Rattle.gb_core.specs.Numbering.{Numbering}
+use Rattle.gb_core.proofs.Lawful.{Lawful}
 use Rattle.gb_meaning.proofs.Values.{value_discrete}
 use Rattle.gb_closing_laws.specs.Pairs.{IsPair, AreNew, AreMatched}
 use Rattle.gb_closing_laws.specs.Needs.{HasRoomFor}

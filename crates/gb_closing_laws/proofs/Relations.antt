@@ -6,8 +6,8 @@ use Rattle.gb_core.specs.declared.ty.Ty.TheVariants as ty
 use Rattle.gb_core.specs.declared.value.Value.{Value}
 use Rattle.gb_core.specs.declared.value.Value.TheVariants.{Many}
 use Rattle.gb_core.specs.declared.value.Value.TheViews.{out-Value}
-use Rattle.gb_types.specs.Numbering.{Numbering, numbers, map_of, is_many_in, parts_in, parts_of, is_many, is_tuple, is_option}
-use Rattle.gb_types.proofs.Lawful.{Lawful, Lawful-uncounted, out-Many, Many-parts_of}
+use Rattle.gb_core.specs.Numbering.{Numbering, numbers, map_of, is_many_in, parts_in, parts_of, is_many, is_tuple, is_option}
+use Rattle.gb_core.proofs.Lawful.{Lawful, Lawful-uncounted, out-Many, Many-parts_of}
 use Rattle.gb_terms.specs.declared.module.Mexp.TheVariants.{Name as named}
 use Rattle.gb_meaning.specs.Names.{Name}
 use Rattle.gb_meaning.specs.Values.{Types, values, has, all_values_by, boxed_values_by, footprint_values}

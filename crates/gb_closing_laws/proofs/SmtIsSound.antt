@@ -38,7 +38,7 @@ use Rattle.gb_amb.proofs.Cases.{conclusion_formula}
 use Rattle.gb_amb.proofs.Idle.{unchanged}
 use Rattle.gb_amb.proofs.Wider.{small}
 use Rattle.gb_mods.specs.Exclusions.{exclusions}
-use Rattle.gb_adversaries.proofs.KeptOff.{kept_off}
+use Rattle.gb_prog.proofs.KeptOff.{kept_off}
 use Rattle.gb_labels.specs.Memories.{AreKeptApart}
 use Rattle.gb_eval.specs.Meant.{AreBodies}
 use Rattle.gb_smt.specs.declared.leaves.Leaf.{Leaf}

@@ -2,7 +2,7 @@
 use Rattle.std.specs.Prelude.{◌≡◌, ◌⊎◌, true, List, [], ◌∷◌}
 use Rattle.gb_core.specs.declared.ty.Ty.TheVariants as ty
 use Rattle.gb_core.specs.declared.value.Value.{Value}
-use Rattle.gb_types.specs.Numbering.{Numbering}
+use Rattle.gb_core.specs.Numbering.{Numbering}
 use Rattle.gb_meaning.specs.Names.{Name}
 use Rattle.gb_meaning.specs.Values.{Types, values}
 

@@ -1,3 +1,10 @@
+pub mod Equations
+pub mod Capped
+pub mod Steps
+pub mod Lawful
+pub mod Maps
+pub mod Orders
+pub mod Places
 pub mod Arms
 pub mod Parts
 pub mod SameTypes

@@ -7,7 +7,7 @@ use Rattle.std.proofs.lemmas.List.Sums.{sum_by_push}
 use Rattle.std.proofs.lemmas.List.Sorted.{sum_by-IsPermutation, All-permutation}
 use Rattle.gb_core.specs.declared.ty.Ty.{Ty}
 use Rattle.gb_core.specs.declared.value.Value.{Value}
-use Rattle.gb_types.specs.Types.{place_of, value_at}
+use Rattle.gb_core.specs.Types.{place_of, value_at}
 use Rattle.gb_dist.specs.WeightedList.{WeightedList, mass, total}
 use Rattle.gb_dist.specs.declared.row.Row.{Row}
 use Rattle.gb_dist.specs.declared.sort.Placed.{Placed}

@@ -1,3 +1,6 @@
+pub mod Divisors
+pub mod Lowest
+pub mod Sizes
 pub mod Masses
 pub mod Entries
 pub mod Monad

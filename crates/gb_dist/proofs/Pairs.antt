@@ -8,8 +8,8 @@ use Rattle.gb_core.specs.declared.value.Value.{Value}
 use Rattle.gb_core.specs.declared.value.Value.TheVariants.{Many}
 use Rattle.gb_dist.specs.WeightedList.{WeightedList, total, dmap}
 use Rattle.gb_dist.proofs.Masses.{mass-dmap, total-bind}
-use Rattle.gb_num.specs.declared.whole.Overflow.{Overflow}
-use Rattle.gb_num.specs.Operations.{Operation, first_overflow, is_small, operands}
+use Rattle.gb_dist.specs.declared.whole.Overflow.{Overflow}
+use Rattle.gb_dist.specs.Operations.{Operation, first_overflow, is_small, operands}
 use Rattle.gb_dist.specs.declared.row.Row.{Row}
 use Rattle.gb_dist.specs.Lists.{is_positive, paired, product}
 use Rattle.gb_dist.specs.Rows.{entries, pairing_steps, product_steps}

@@ -7,7 +7,7 @@ use Rattle.std.specs.Prelude.{◌&&◌, nat_lt}
 use Rattle.gb_core.specs.declared.value.Value.{Value}
 use Rattle.gb_dist.specs.WeightedList.{WeightedList, total, scale}
 use Rattle.gb_dist.proofs.Masses.{mass-append, mass-scale}
-use Rattle.gb_types.specs.Numbering.{Numbering}
+use Rattle.gb_core.specs.Numbering.{Numbering}
 use Rattle.gb_dist.specs.declared.row.Row.{Row}
 use Rattle.gb_dist.specs.Lists.{kept, is_positive, values_below}
 use Rattle.gb_dist.specs.Rows.{entries, weight_of}

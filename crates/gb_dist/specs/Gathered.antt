@@ -4,7 +4,7 @@ use Rattle.gb_core.specs.declared.refusal.Refused.{Refused}
 use Rattle.gb_core.specs.declared.ty.Ty.{Ty}
 use Rattle.gb_core.specs.declared.value.Value.{Value}
 use Rattle.gb_dist.specs.WeightedList.{WeightedList}
-use Rattle.gb_num.specs.Operations.{Operation, first_overflow}
+use Rattle.gb_dist.specs.Operations.{Operation, first_overflow}
 use Rattle.gb_dist.specs.declared.table.Table.{Table}
 use Rattle.gb_dist.specs.Places.{IsGathered}
 use Rattle.gb_dist.specs.Tables.{IsRefusal}

@@ -1,3 +1,5 @@
+pub mod Fractions
+pub mod Operations
 pub mod WeightedList
 pub mod Coupling
 pub mod Existence

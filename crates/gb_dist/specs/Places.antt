@@ -5,8 +5,8 @@ use Rattle.gb_core.specs.declared.ty.Ty.{Ty}
 use Rattle.gb_core.specs.declared.ty.Ty.TheOpen as t
 use Rattle.gb_core.specs.declared.ty.Ty.TheFolds.{fold-Ty}
 use Rattle.gb_core.specs.declared.value.Value.{Value}
-use Rattle.gb_types.specs.Numbering.{is_many}
-use Rattle.gb_types.specs.Types.{IsValue, place_of}
+use Rattle.gb_core.specs.Numbering.{is_many}
+use Rattle.gb_core.specs.Types.{IsValue, place_of}
 use Rattle.gb_dist.specs.WeightedList.{WeightedList, mass}
 use Rattle.gb_dist.specs.declared.row.Row.{Row}
 use Rattle.gb_dist.specs.declared.sort.Placed.{Placed}

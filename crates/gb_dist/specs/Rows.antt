@@ -2,7 +2,7 @@
 use Rattle.std.specs.Prelude.{ℕ, ◌+◌, Bool, List, [], ◌∷◌, ◌++◌, map, pos}
 use Rattle.gb_core.specs.declared.value.Value.{Value}
 use Rattle.gb_dist.specs.WeightedList.{WeightedList, total}
-use Rattle.gb_num.specs.Operations.{Operation, product_of, sum_of}
+use Rattle.gb_dist.specs.Operations.{Operation, product_of, sum_of}
 use Rattle.gb_dist.specs.declared.row.Row.{Row}
 use Rattle.gb_dist.specs.Lists.{is_positive}
 

@@ -6,8 +6,8 @@ use Rattle.gb_core.specs.declared.refusal.Refused.TheVariants.{NoMemory, ReadFau
 use Rattle.gb_core.specs.declared.refusal.Why.TheVariants as why
 use Rattle.gb_core.specs.declared.value.Value.{Value}
 use Rattle.gb_dist.specs.WeightedList.{WeightedList}
-use Rattle.gb_num.specs.declared.whole.Overflow.{Overflow}
-use Rattle.gb_num.specs.Operations.{Operation, first_overflow, is_small, operands}
+use Rattle.gb_dist.specs.declared.whole.Overflow.{Overflow}
+use Rattle.gb_dist.specs.Operations.{Operation, first_overflow, is_small, operands}
 use Rattle.gb_dist.specs.declared.table.Table.{Table}
 use Rattle.gb_dist.specs.declared.row.Row.{Row}
 use Rattle.gb_dist.specs.Rows.{entries}

@@ -2,7 +2,7 @@
 
 ghost use Rattle.std.specs.Prelude.{◌≡◌, ◌<◌, ◌^◌, ◌*◌, ◌++◌, ◌∷◌, [], IfOk, pos};
 ghost use Rattle.gb_core.specs.declared.value.Value.TheVariants.{Many};
-ghost use Rattle.gb_num.specs.Operations.{product_of};
+ghost use Rattle.gb_dist.specs.Operations.{product_of};
 ghost use Rattle.gb_dist.specs.Lists.{paired, product};
 ghost use Rattle.gb_dist.specs.Rows.{entries, pairing_steps, product_steps, weight_of};
 ghost use Rattle.gb_dist.specs.Tables.{Gives, GivesRows};

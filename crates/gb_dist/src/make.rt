@@ -1,18 +1,18 @@
 // Tables of the basic distributions.
 
 ghost use Rattle.std.specs.Prelude.{◌≡◌, ◌≤◌, [], ◌∷◌};
-ghost use Rattle.gb_types.specs.Types.{IsExact, card_of, numbering, size_of};
+ghost use Rattle.gb_core.specs.Types.{IsExact, card_of, numbering, size_of};
 ghost use Rattle.gb_dist.specs.WeightedList.{unit};
 ghost use Rattle.gb_dist.specs.Lists.{coin, uniform};
 ghost use Rattle.gb_dist.specs.Tables.{Gives};
 
 use crate::row::Row;
 use crate::table::Table;
+use gb_core::nth::nth;
 use gb_core::refusal::Refused;
+use gb_core::size::size;
 use gb_core::ty::Ty;
 use gb_core::value::Value;
-use gb_types::nth::nth;
-use gb_types::size::size;
 use sqlite_items::Items;
 use std::alloc::Global;
 

@@ -1,13 +1,12 @@
 // Whole numbers below 2^127, with the refusal of an overflow.
 
 ghost use Rattle.std.specs.Prelude.{◌≡◌, ◌<◌, ◌^◌, ◌*◌, ◌+◌, pos, IfOk};
-ghost use Rattle.gb_num.specs.Operations.{product_of, sum_of};
+ghost use Rattle.gb_dist.specs.Operations.{product_of, sum_of};
 ghost use Rattle.gb_dist.specs.Tables.{GivesNumber, refusal_of};
 
+use crate::whole::{Overflow, product, sum};
 use gb_core::place::Place;
 use gb_core::refusal::{Refused, Why};
-use gb_num::Overflow;
-use gb_num::whole::{product, sum};
 
 /// The refusal of an overflow, at the place of three zeros.
 pub fn refusal(overflow: Overflow) -> Refused

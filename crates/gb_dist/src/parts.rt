@@ -3,7 +3,7 @@
 ghost use Rattle.std.specs.Prelude.{◌≡◌, ◌≤◌, ◌<◌, length, [], ◌∷◌, ◌++◌, ◌*◌, ◌^◌, pos};
 ghost use Rattle.gb_core.specs.declared.value.Value.{Value};
 ghost use Rattle.gb_dist.specs.WeightedList.{scale, total, weight_at};
-ghost use Rattle.gb_num.specs.Operations.{product_of};
+ghost use Rattle.gb_dist.specs.Operations.{product_of};
 ghost use Rattle.gb_dist.specs.Lists.{kept};
 ghost use Rattle.gb_dist.specs.Rows.{entries, scaling_steps};
 ghost use Rattle.gb_dist.specs.Tables.{Gives};

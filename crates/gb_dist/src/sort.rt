@@ -4,16 +4,16 @@ ghost use Rattle.std.specs.Prelude.{◌≡◌, ◌≢◌, ℕ, ◌<◌, ◌≤�
 ghost use Rattle.std.specs.List.{sum_by};
 ghost use Rattle.std.specs.List.Sorted.{IsNonDecreasingBy};
 ghost use Rattle.gb_core.specs.declared.value.Value.{Value};
-ghost use Rattle.gb_types.specs.Types.{place_of, value_at};
+ghost use Rattle.gb_core.specs.Types.{place_of, value_at};
 ghost use Rattle.gb_dist.specs.WeightedList.{mass};
 ghost use Rattle.gb_dist.specs.Lists.{IsIncreasing};
 ghost use Rattle.gb_dist.specs.Rows.{are_positive, entries, weight_of};
 ghost use Rattle.gb_dist.specs.Places.{ArePlaced, ArePlacedBy, AreSameAtPlaces, IsGathered, IsPlaced, is_glob, outcomes, placed_mass, places};
 
 use crate::row::{Row, Rows};
+use gb_core::index::index;
 use gb_core::ty::Ty;
 use gb_core::value::Value;
-use gb_types::index::index;
 use sqlite_items::Items;
 use std::alloc::{AllocError, Global};
 

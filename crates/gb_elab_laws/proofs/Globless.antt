@@ -10,7 +10,7 @@ use Rattle.gb_core.specs.declared.ty.Ty.TheOpen as layer
 use Rattle.gb_core.specs.declared.ty.Ty.TheBlock as B
 use Rattle.gb_core.specs.declared.ty.Ty.TheViews.{roll-out-Ty}
 use Rattle.gb_core.specs.declared.ty.Ty.TheFolds.{fold-roll-Ty}
-use Rattle.gb_types.specs.Types.{finite_step, is_finite, all_true}
+use Rattle.gb_core.specs.Types.{finite_step, is_finite, all_true}
 use Rattle.gb_terms.specs.declared.module.Mexp.{Mexp}
 use Rattle.gb_terms.specs.declared.module.Mexp.TheVariants.{Name as named, Apply'}
 use Rattle.gb_terms.specs.declared.op.Read.{Read}

@@ -8,7 +8,7 @@ use Rattle.gb_core.specs.declared.value.Value.TheOpen as value_layer
 use Rattle.gb_core.specs.declared.value.Value.TheVariants.{Num}
 use Rattle.gb_dist.specs.WeightedList.{Every}
 use Rattle.gb_dist.proofs.Entries.{Every-weaken}
-use Rattle.gb_types.specs.Numbering.{is_below_in, number_in as number_at, number_of}
+use Rattle.gb_core.specs.Numbering.{is_below_in, number_in as number_at, number_of}
 use Rattle.gb_terms.specs.declared.decl.TypedName.{TypedName}
 use Rattle.gb_terms.specs.declared.op.Op.TheVariants as op
 use Rattle.gb_terms.specs.declared.op.Read.TheVariants as read

@@ -34,7 +34,7 @@ use Rattle.gb_mods.specs.Called.{all_reached}
 use Rattle.gb_mods.specs.Order.{joined, placed}
 use Rattle.gb_mods.specs.Read.{read, read_by, read_if}
 use Rattle.gb_mods.proofs.Closed.{all_closed}
-use Rattle.gb_adversaries.proofs.Meanings.{means_there}
+use Rattle.gb_prog.proofs.Meanings.{means_there}
 use Rattle.gb_trans.proofs.Named.{EachNamed}
 use Rattle.gb_trans.proofs.ReadPlaces.{read_each, routine_good}
 use Rattle.gb_elab_laws.specs.Agree.{HoldsSame, HoldSame}

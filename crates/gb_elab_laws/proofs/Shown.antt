@@ -6,7 +6,7 @@ use Rattle.gb_core.specs.declared.ty.Ty.{Ty}
 use Rattle.gb_core.specs.declared.ty.Ty.TheVariants as ty
 use Rattle.gb_core.specs.declared.value.Value.{Value, out-Value}
 use Rattle.gb_core.specs.declared.value.Value.TheOpen as value_layer
-use Rattle.gb_types.specs.Numbering.{is_below_in}
+use Rattle.gb_core.specs.Numbering.{is_below_in}
 use Rattle.gb_terms.specs.declared.decl.Proc.{Proc}
 use Rattle.gb_terms.specs.declared.decl.TypedName.{TypedName}
 use Rattle.gb_terms.specs.declared.module.ProcRef.{ProcRef}

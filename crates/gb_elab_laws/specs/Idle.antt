@@ -1,7 +1,7 @@
 -- The program that does nothing and answers with first values.
 use Rattle.std.specs.Prelude.{◌≡◌, ℕ, ◌<◌, false, List, [], ◌∷◌, bytes_eq}
 use Rattle.gb_core.specs.declared.ty.Ty.{Ty}
-use Rattle.gb_types.specs.Numbering.{Numbering, numbers, uncounted}
+use Rattle.gb_core.specs.Numbering.{Numbering, numbers, uncounted}
 use Rattle.gb_terms.specs.declared.decl.TypedName.{TypedName}
 use Rattle.gb_terms.specs.declared.term.Head.TheVariants.{Lit}
 use Rattle.gb_meaning.specs.Names.{Name}

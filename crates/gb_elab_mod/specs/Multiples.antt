@@ -4,9 +4,9 @@ use Rattle.std.specs.List.{list_any}
 use Rattle.gb_core.specs.declared.place.Place.{Place}
 use Rattle.gb_core.specs.declared.refusal.Why.{Why}
 use Rattle.gb_core.specs.declared.refusal.Why.TheVariants.{Argument}
-use Rattle.gb_num.specs.declared.whole.Overflow.{Overflow}
-use Rattle.gb_num.specs.Fractions.{Fraction, of_whole, over, reduced}
-use Rattle.gb_num.specs.Operations.{outcome, over_steps}
+use Rattle.gb_dist.specs.declared.whole.Overflow.{Overflow}
+use Rattle.gb_dist.specs.Fractions.{Fraction, of_whole, over, reduced}
+use Rattle.gb_dist.specs.Operations.{outcome, over_steps}
 use Rattle.gb_goal.specs.declared.sequent.Hyp.{Hyp}
 use Rattle.gb_goal.specs.declared.sequent.Sequent.{Sequent}
 use Rattle.gb_goal.specs.Scope.{Declarations}

@@ -10,10 +10,10 @@ use Rattle.gb_core.specs.declared.ty.Ty.TheOpen as t
 use Rattle.gb_core.specs.declared.ty.Ty.TheFolds.{fold-roll-Ty}
 use Rattle.gb_core.specs.declared.value.Card.{Card}
 use Rattle.gb_core.specs.declared.value.Card.TheVariants.{Exact, Above}
-use Rattle.gb_types.specs.Numbering.{tuples}
-use Rattle.gb_types.specs.Types.{all_true, finite_step, is_finite, numbering, size_of, card_of, IsPlaceBelow}
-use Rattle.gb_types.proofs.Capped.{min_times}
-use Rattle.gb_types.proofs.Equations.{numbering-Tuple}
+use Rattle.gb_core.specs.Numbering.{tuples}
+use Rattle.gb_core.specs.Types.{all_true, finite_step, is_finite, numbering, size_of, card_of, IsPlaceBelow}
+use Rattle.gb_core.proofs.Capped.{min_times}
+use Rattle.gb_core.proofs.Equations.{numbering-Tuple}
 use Rattle.gb_meaning.specs.Operators.{outcome_type}
 use Rattle.gb_laws.proofs.Constructors.{distribution_is}
 

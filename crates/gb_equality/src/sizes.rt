@@ -2,18 +2,18 @@
 
 ghost use Rattle.std.specs.Prelude.{◌≡◌, ◌≤◌, ◌*◌, ◌^◌, map, min, IfOk};
 ghost use Rattle.gb_core.specs.declared.ty.Ty.TheVariants.{Tuple};
-ghost use Rattle.gb_types.specs.Numbering.{tuples};
-ghost use Rattle.gb_types.specs.Types.{all_true, is_finite, numbering, size_of, card_of};
+ghost use Rattle.gb_core.specs.Numbering.{tuples};
+ghost use Rattle.gb_core.specs.Types.{all_true, is_finite, numbering, size_of, card_of};
 ghost use Rattle.gb_meaning.specs.Operators.{outcome_type};
 ghost use Rattle.gb_equality.specs.Sizes.{of_memory, read_by_only, greater};
 
 use gb_closing::counted::card_at;
 use gb_closing::linked::Variable;
+use gb_core::size::{MANY, is_finite, size};
 use gb_core::ty::Ty;
 use gb_core::value::Card;
 use gb_labels::reads::{TypedVar, reads};
 use gb_terms::term::{Head, Term};
-use gb_types::size::{MANY, is_finite, size};
 use std::alloc::{AllocError, Global};
 
 /// The product, up to `MANY`.

@@ -61,7 +61,7 @@ use Rattle.gb_typing.specs.Forms.{IsAlone, and_form, located}
 use Rattle.gb_typing.specs.Meaning.{run, denominator}
 use Rattle.gb_goal.specs.Scope.{Declarations}
 use Rattle.gb_mods.specs.Exclusions.{exclusions}
-use Rattle.gb_adversaries.proofs.KeptOff.{kept_off}
+use Rattle.gb_prog.proofs.KeptOff.{kept_off}
 use Rattle.gb_goal.specs.declared.sequent.Sequent.{Sequent}
 use Rattle.gb_meaning.specs.Declared.{declared}
 use Rattle.gb_typing.specs.Rules.{outermost, ImpliesIn, IsSettingOver, IsSoundRuleIn, no_arguments}

@@ -51,7 +51,7 @@ use Rattle.gb_goal.specs.Goal.{Goal}
 use Rattle.gb_goal.specs.Scope.{Declarations}
 use Rattle.gb_meaning.specs.Declared.{declared}
 use Rattle.gb_mods.specs.Exclusions.{exclusions}
-use Rattle.gb_adversaries.proofs.KeptOff.{kept_off}
+use Rattle.gb_prog.proofs.KeptOff.{kept_off}
 use Rattle.gb_goal.specs.Goal.Code.{body, procedure}
 use Rattle.gb_goal.specs.Goal.Goal.{hoare, phoare, equiv, ambient}
 use Rattle.gb_walk.specs.Clash.{first_clash}

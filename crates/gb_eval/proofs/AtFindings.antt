@@ -10,14 +10,14 @@ use Rattle.gb_core.specs.declared.value.Value.{Value}
 use Rattle.gb_core.specs.declared.value.Value.TheVariants.{Num, Many, Many'}
 use Rattle.gb_core.specs.declared.value.Card.{Card}
 use Rattle.gb_core.specs.declared.value.Card.TheVariants.{Exact, Above}
-use Rattle.gb_types.specs.Numbering.{parts_of, number_of, first_or}
-use Rattle.gb_types.specs.Types.{card_of}
+use Rattle.gb_core.specs.Numbering.{parts_of, number_of, first_or}
+use Rattle.gb_core.specs.Types.{card_of}
 use Rattle.gb_terms.specs.declared.op.Op.{Op}
 use Rattle.gb_terms.specs.declared.op.Op.TheVariants as op
 use Rattle.gb_dist.specs.WeightedList.{unit}
-use Rattle.gb_num.specs.Fractions.{Fraction, IsSame, plus, minus, times, over, absolute, of_whole, reduced}
-use Rattle.gb_num.specs.Fractions as fractions
-use Rattle.gb_num.specs.Operations.{Operation, is_small, product_of, sum_of, difference_of, crossings, plus_steps, minus_steps, times_steps, over_steps}
+use Rattle.gb_dist.specs.Fractions.{Fraction, IsSame, plus, minus, times, over, absolute, of_whole, reduced}
+use Rattle.gb_dist.specs.Fractions as fractions
+use Rattle.gb_dist.specs.Operations.{Operation, is_small, product_of, sum_of, difference_of, crossings, plus_steps, minus_steps, times_steps, over_steps}
 use Rattle.gb_meaning.specs.Setting.{Meaning}
 use Rattle.gb_meaning.specs.Setting.{Meaning as meaning}
 use Rattle.gb_meaning.specs.Values.{Types, values}

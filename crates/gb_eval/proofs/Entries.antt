@@ -4,7 +4,7 @@ use Rattle.gb_core.specs.declared.ty.Ty.{Ty}
 use Rattle.gb_core.specs.declared.ty.Ty.TheVariants as ty
 use Rattle.gb_core.specs.declared.value.Value.{Value}
 use Rattle.gb_core.specs.declared.value.Value.TheVariants.{Many}
-use Rattle.gb_types.specs.Types.{numbering}
+use Rattle.gb_core.specs.Types.{numbering}
 use Rattle.gb_labels.specs.Keys.{are_keys, is_key}
 use Rattle.gb_meaning.specs.Operators.{entry_set}
 use Rattle.gb_laws.proofs.Constructors.{map_is}

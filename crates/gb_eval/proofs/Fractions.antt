@@ -5,8 +5,8 @@ use Rattle.std.specs.declared.cmp.Ordering.TheVariants.{Less, Equal, Greater}
 use Rattle.std.proofs.lemmas.Int.{ints, unsigned_abs-mul}
 use Rattle.std.proofs.Math.Nat.{mul-le-mul_right}
 use borrow.Author.Differences.{up, down}
-use Rattle.gb_num.specs.Fractions.{Fraction, IsSame, crossed, plus, minus, times, over, absolute, reduced, order}
-use Rattle.gb_num.proofs.Lowest.{IsSame-reduced, IsLowest-reduced}
+use Rattle.gb_dist.specs.Fractions.{Fraction, IsSame, crossed, plus, minus, times, over, absolute, reduced, order}
+use Rattle.gb_dist.proofs.Lowest.{IsSame-reduced, IsLowest-reduced}
 use Rattle.gb_meaning.specs.Fractions as m
 use Rattle.gb_meaning.specs.Setting.{Meaning as meaning}
 use Rattle.gb_eval.specs.Meant.{IsFraction}

@@ -12,7 +12,7 @@ use Rattle.gb_eval.specs.declared.env.Bound.{Bound}
 use Rattle.gb_eval.specs.Findings.{Comes, Operators}
 use Rattle.gb_eval.specs.Eval.{Environment, part_of, eval, eval_all, at_head}
 use Rattle.gb_core.specs.declared.ty.Ty.TheVariants as ty
-use Rattle.gb_types.specs.Types.{card_of, is_finite}
+use Rattle.gb_core.specs.Types.{card_of, is_finite}
 use Rattle.gb_terms.specs.declared.op.Op.{Op}
 use Rattle.gb_terms.specs.declared.op.Read.{Read}
 use Rattle.gb_terms.specs.declared.op.Op.TheVariants as op

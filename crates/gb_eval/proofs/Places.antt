@@ -13,7 +13,7 @@ use Rattle.gb_eval.specs.Findings.Comes.{found, unknown, overflow}
 use Rattle.std.proofs.lemmas.List.{length-append, length-map}
 use Rattle.gb_core.specs.declared.ty.Ty.{Ty}
 use Rattle.gb_core.specs.declared.value.Card.TheVariants.{Exact}
-use Rattle.gb_types.specs.Types.{card_of, value_at}
+use Rattle.gb_core.specs.Types.{card_of, value_at}
 use Rattle.gb_terms.specs.declared.op.Op.{Op}
 use Rattle.gb_terms.specs.declared.op.Op.TheVariants as op
 use Rattle.gb_dist.specs.declared.row.Row.{Row}
@@ -31,9 +31,9 @@ use Rattle.gb_eval.specs.declared.answer.Answer.TheVariants as answer
 use Rattle.gb_eval.specs.Findings.{shown}
 use Rattle.gb_eval.specs.Operators.{part, same, weight_of, whole_fraction, zero_fraction}
 use Rattle.std.proofs.lemmas.Bool.{le-leb, lt-ltb}
-use Rattle.gb_num.specs.Fractions.{Fraction, of_whole}
-use Rattle.gb_num.proofs.Sizes.{small, large}
-use Rattle.gb_types.specs.Numbering.{parts_of, key_of, first_or}
+use Rattle.gb_dist.specs.Fractions.{Fraction, of_whole}
+use Rattle.gb_dist.proofs.Sizes.{small, large}
+use Rattle.gb_core.specs.Numbering.{parts_of, key_of, first_or}
 use Rattle.gb_core.specs.declared.value.Value.TheVariants.{Num}
 use Rattle.gb_dist.specs.WeightedList.{WeightedList, bit, bit_of_decision, indicator, weight_at}
 use Rattle.gb_dist.proofs.Masses.{mass-same}

@@ -8,12 +8,12 @@ use Rattle.gb_core.specs.declared.ty.Ty.TheFolds.{fold-roll-Ty}
 use Rattle.gb_core.specs.declared.value.Value.{Value}
 use Rattle.gb_core.specs.declared.value.Value.TheVariants.{Many}
 use Rattle.gb_core.specs.declared.value.Card.TheVariants.{Exact}
-use Rattle.gb_types.specs.Numbering.{Numbering, is_many_in, is_tuple, parts_in, parts_of, tuples}
-use Rattle.gb_types.specs.Types.{all_true, card_of, finite_step, is_finite, numbering, size_of, value_at}
-use Rattle.gb_types.proofs.Equations.{numbering-Tuple}
-use Rattle.gb_types.proofs.Lawful.{out-Many}
-use Rattle.gb_types.proofs.Orders.{lawful}
-use Rattle.gb_types.proofs.Steps.{factors}
+use Rattle.gb_core.specs.Numbering.{Numbering, is_many_in, is_tuple, parts_in, parts_of, tuples}
+use Rattle.gb_core.specs.Types.{all_true, card_of, finite_step, is_finite, numbering, size_of, value_at}
+use Rattle.gb_core.proofs.Equations.{numbering-Tuple}
+use Rattle.gb_core.proofs.Lawful.{out-Many}
+use Rattle.gb_core.proofs.Orders.{lawful}
+use Rattle.gb_core.proofs.Steps.{factors}
 use Rattle.gb_meaning.specs.Memory.{Memory}
 use Rattle.gb_meaning.specs.Values.{Types}
 use Rattle.gb_meaning.proofs.Types.{values_finite}

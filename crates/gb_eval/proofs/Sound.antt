@@ -9,8 +9,8 @@ use Rattle.gb_core.specs.declared.value.Value.TheVariants.{Num, Many}
 use Rattle.gb_core.specs.declared.value.Card.{Card}
 use Rattle.gb_core.specs.declared.value.Card.TheVariants.{Exact, Above}
 use Rattle.gb_core.specs.declared.var.Var.{Var}
-use Rattle.gb_types.specs.Numbering.{parts_of}
-use Rattle.gb_types.specs.Types.{value_at, card_of}
+use Rattle.gb_core.specs.Numbering.{parts_of}
+use Rattle.gb_core.specs.Types.{value_at, card_of}
 use Rattle.gb_labels.specs.Reads.{are_free}
 use Rattle.gb_labels.specs.Held as held
 use Rattle.gb_labels.specs.Memories.{AreKeptApart, AreReadable, IsHeldBy, read_all}
@@ -25,8 +25,8 @@ use Rattle.gb_terms.specs.declared.term.Head.{Head}
 use Rattle.gb_terms.specs.declared.term.Head.TheVariants as head
 use Rattle.gb_dist.specs.WeightedList.{WeightedList, dmap, mass, weight, total, bit, scale}
 use Rattle.gb_dist.proofs.Masses.{mass-scale}
-use Rattle.gb_num.specs.Fractions.{Fraction, IsSame, plus}
-use Rattle.gb_num.specs.Operations.{product_of, plus_steps}
+use Rattle.gb_dist.specs.Fractions.{Fraction, IsSame, plus}
+use Rattle.gb_dist.specs.Operations.{product_of, plus_steps}
 use Rattle.gb_dist.specs.Lists as lists
 use Rattle.gb_dist.specs.Places.{outcomes}
 use Rattle.gb_dist.proofs.Events.{kept_is, kept_mass}

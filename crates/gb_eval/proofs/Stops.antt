@@ -2,17 +2,17 @@
 use Rattle.std.proofs.Common.{◌≡◌, ℕ, Option, Some, None, Result, Err, sym, ap, ◌∙◌, List, subst}
 use Rattle.gb_core.specs.declared.refusal.Refused.{Refused}
 use Rattle.gb_core.specs.declared.refusal.Refused.TheVariants as refused
-use Rattle.gb_num.specs.declared.whole.Overflow.{Overflow}
-use Rattle.gb_num.specs.Operations.{Operation, first_overflow}
+use Rattle.gb_dist.specs.declared.whole.Overflow.{Overflow}
+use Rattle.gb_dist.specs.Operations.{Operation, first_overflow}
 use Rattle.gb_dist.specs.Tables.{IsRefusal, refusal_of}
 use Rattle.gb_eval.specs.declared.answer.Stop.{Stop}
 use Rattle.gb_eval.specs.declared.answer.Stop.TheVariants as stop
 use Rattle.gb_eval.specs.Findings.{Comes, ◌>>=◌, unless, after, Stops, Gives, stop_of}
 use Rattle.std.proofs.Common.{◌*◌, ◌<◌, ◌^◌, pos, if◌then◌else◌, arith}
 use Rattle.std.proofs.lemmas.Bool.{lt-ltb}
-use Rattle.gb_num.specs.Fractions.{of_whole, over, reduced}
-use Rattle.gb_num.specs.Operations.{over_steps}
-use Rattle.gb_num.proofs.Sizes.{small}
+use Rattle.gb_dist.specs.Fractions.{of_whole, over, reduced}
+use Rattle.gb_dist.specs.Operations.{over_steps}
+use Rattle.gb_dist.proofs.Sizes.{small}
 use Rattle.gb_eval.specs.Operators.{chance}
 use Rattle.gb_eval.specs.Findings.Finding.{fraction}
 use Rattle.gb_eval.specs.Findings.Comes.{found, unknown}

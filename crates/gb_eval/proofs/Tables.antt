@@ -6,10 +6,10 @@ use Rattle.gb_core.specs.declared.value.Value.{Value}
 use Rattle.gb_core.specs.declared.value.Value.TheVariants.{Many}
 use Rattle.gb_core.specs.declared.value.Card.{Card}
 use Rattle.gb_core.specs.declared.value.Card.TheVariants.{Exact, Above}
-use Rattle.gb_types.specs.Types.{numbering, is_finite, size_of, card_of}
+use Rattle.gb_core.specs.Types.{numbering, is_finite, size_of, card_of}
 use Rattle.gb_dist.specs.WeightedList.{WeightedList, mass, total, weight, bit, dmap}
 use Rattle.gb_dist.proofs.Masses.{mass-bind, mass-dmap, mass-same}
-use Rattle.gb_num.specs.Fractions.{reduced}
+use Rattle.gb_dist.specs.Fractions.{reduced}
 use Rattle.gb_dist.specs.Lists as lists
 use Rattle.gb_dist.specs.Places.{outcomes}
 use Rattle.gb_meaning.specs.Setting.{Meaning}

@@ -4,10 +4,10 @@ use Rattle.std.proofs.lemmas.Bool.Decides.{Decides-eqb}
 use Rattle.gb_core.specs.declared.value.Value.TheVariants.{Num, Many', rolls-Num}
 use Rattle.gb_core.specs.declared.value.Value.TheOpen as v
 use Rattle.gb_core.specs.declared.value.Value.TheViews.{out-Value, out-roll-Value}
-use Rattle.gb_types.specs.Numbering.{number_in, number_of}
+use Rattle.gb_core.specs.Numbering.{number_in, number_of}
 use Rattle.gb_terms.specs.declared.op.Op.TheVariants as op
-use Rattle.gb_num.specs.declared.whole.Overflow.{Overflow}
-use Rattle.gb_num.specs.Operations.{Operation, first_overflow}
+use Rattle.gb_dist.specs.declared.whole.Overflow.{Overflow}
+use Rattle.gb_dist.specs.Operations.{Operation, first_overflow}
 use Rattle.gb_meaning.specs.Setting.{Meaning}
 use Rattle.gb_meaning.specs.Meanings as m
 use Rattle.gb_meaning.specs.Operators as o

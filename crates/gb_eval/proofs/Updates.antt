@@ -7,10 +7,10 @@ use Rattle.gb_core.specs.declared.ty.Ty.TheOpen as layer
 use Rattle.gb_core.specs.declared.ty.Ty.TheFolds.{fold-roll-Ty}
 use Rattle.gb_core.specs.declared.value.Value.{Value}
 use Rattle.gb_core.specs.declared.value.Value.TheVariants.{Many}
-use Rattle.gb_types.specs.Numbering.{parts_of}
+use Rattle.gb_core.specs.Numbering.{parts_of}
 use Rattle.gb_core.specs.declared.value.Card.{Card}
 use Rattle.gb_core.specs.declared.value.Card.TheVariants.{Exact, Above}
-use Rattle.gb_types.specs.Types.{card_of, finite_step, is_finite, numbering}
+use Rattle.gb_core.specs.Types.{card_of, finite_step, is_finite, numbering}
 use Rattle.gb_meaning.specs.Setting.{Meaning}
 use Rattle.gb_meaning.specs.Setting.{Meaning as meaning}
 use Rattle.gb_meaning.specs.Values.{Types, values}

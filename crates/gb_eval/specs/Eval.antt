@@ -7,8 +7,8 @@ use Rattle.gb_core.specs.declared.value.Value.{Value}
 use Rattle.gb_core.specs.declared.value.Value.TheVariants.{Num, Many}
 use Rattle.gb_core.specs.declared.value.Card.{Card}
 use Rattle.gb_core.specs.declared.value.Card.TheVariants.{Exact, Above}
-use Rattle.gb_types.specs.Numbering.{parts_of}
-use Rattle.gb_types.specs.Types.{card_of, value_at}
+use Rattle.gb_core.specs.Numbering.{parts_of}
+use Rattle.gb_core.specs.Types.{card_of, value_at}
 use Rattle.gb_terms.specs.declared.op.Op.{Op}
 use Rattle.gb_terms.specs.declared.op.Op.TheVariants as op
 use Rattle.gb_terms.specs.declared.op.Read.{Read}
@@ -19,8 +19,8 @@ use Rattle.gb_terms.specs.declared.term.Head.{Head}
 use Rattle.gb_terms.specs.declared.term.Head.TheVariants as head
 use Rattle.gb_terms.specs.Equal.{read_eq}
 use Rattle.gb_dist.specs.WeightedList.{WeightedList, total, scale}
-use Rattle.gb_num.specs.Fractions.{Fraction, plus, reduced}
-use Rattle.gb_num.specs.Operations.{product_of, plus_steps}
+use Rattle.gb_dist.specs.Fractions.{Fraction, plus, reduced}
+use Rattle.gb_dist.specs.Operations.{product_of, plus_steps}
 use Rattle.gb_dist.specs.Lists.{imaged, kept}
 use Rattle.gb_meaning.specs.Distributions.{stated}
 use Rattle.gb_meaning.specs.Operators.{is_distribution}

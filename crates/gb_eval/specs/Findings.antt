@@ -6,9 +6,9 @@ use Rattle.gb_core.specs.declared.refusal.Why.TheVariants as why
 use Rattle.gb_core.specs.declared.value.Value.{Value}
 use Rattle.gb_core.specs.declared.value.Value.TheVariants.{Num, Many'}
 use Rattle.gb_dist.specs.WeightedList.{WeightedList}
-use Rattle.gb_num.specs.declared.whole.Overflow.{Overflow}
-use Rattle.gb_num.specs.Fractions.{Fraction}
-use Rattle.gb_num.specs.Operations.{Operation, first_overflow}
+use Rattle.gb_dist.specs.declared.whole.Overflow.{Overflow}
+use Rattle.gb_dist.specs.Fractions.{Fraction}
+use Rattle.gb_dist.specs.Operations.{Operation, first_overflow}
 use Rattle.gb_meaning.specs.Names.{Name}
 use Rattle.gb_dist.specs.declared.table.Table.{Table}
 use Rattle.gb_dist.specs.Rows.{entries}

@@ -9,7 +9,7 @@ use Rattle.gb_terms.specs.declared.term.Term.{Term, Term', Row_of-Term, end_of-T
 use Rattle.gb_terms.specs.declared.term.Head.{Head}
 use Rattle.gb_terms.specs.declared.term.Head.TheVariants as head
 use Rattle.gb_dist.specs.WeightedList.{WeightedList, mass}
-use Rattle.gb_num.specs.Fractions.{Fraction, IsSame}
+use Rattle.gb_dist.specs.Fractions.{Fraction, IsSame}
 use Rattle.gb_meaning.specs.Setting.{Meaning, Setting}
 use Rattle.gb_meaning.specs.Setting.Meaning.{finite, whole, fraction, weights}
 use Rattle.gb_meaning.specs.Values.{Types}

@@ -4,13 +4,13 @@ use Rattle.std.specs.List.{list_all}
 use Rattle.gb_core.specs.declared.ty.Ty.{Ty}
 use Rattle.gb_core.specs.declared.value.Card.{Card}
 use Rattle.gb_core.specs.declared.value.Card.TheVariants.{Exact, Above}
-use Rattle.gb_types.specs.Types.{card_of}
+use Rattle.gb_core.specs.Types.{card_of}
 use Rattle.gb_terms.specs.declared.op.Op.{Op}
 use Rattle.gb_terms.specs.declared.op.Op.TheVariants as op
 use Rattle.gb_terms.specs.declared.term.Term.{Term, Term', Row_of-Term, end_of-Term, more_of-Term, end_of-Head, more_of-Head}
 use Rattle.gb_terms.specs.declared.term.Head.{Head}
 use Rattle.gb_terms.specs.declared.term.Head.TheVariants as head
-use Rattle.gb_num.specs.Operations.{product_of}
+use Rattle.gb_dist.specs.Operations.{product_of}
 use Rattle.gb_core.specs.declared.value.Value.{Value}
 use Rattle.gb_dist.specs.WeightedList.{WeightedList, total}
 use Rattle.gb_dist.specs.Rows.{adding_steps}

@@ -6,8 +6,9 @@ ghost use Rattle.gb_eval.specs.Findings.{Finds, Gives, fraction_in, number_in, o
 
 use gb_core::refusal::{Refused, Why};
 use gb_core::value::Value;
+use gb_dist::frac::Frac;
 use gb_dist::table::Table;
-use gb_num::{Frac, Overflow};
+use gb_dist::whole::Overflow;
 use std::alloc::{AllocError, AllocFailed};
 
 /// A value of a finite type, a whole number, a fraction in lowest terms, or a distribution.

@@ -1,8 +1,8 @@
 // What a closed term comes to.
 
 ghost use Rattle.std.specs.Prelude.{◌≡◌, ◌<◌, ◌^◌, reverse, map, [], ◌∷◌, IfOk, OnOk};
-ghost use Rattle.gb_types.specs.Types.{IsPlaceBelow, card_of, value_at};
-ghost use Rattle.gb_types.specs.Numbering.{parts_of};
+ghost use Rattle.gb_core.specs.Types.{IsPlaceBelow, card_of, value_at};
+ghost use Rattle.gb_core.specs.Numbering.{parts_of};
 ghost use Rattle.gb_labels.specs.Held.{with_values};
 ghost use Rattle.gb_labels.specs.Reads.{are_free};
 ghost use Rattle.gb_dist.specs.Rows.{entries};
@@ -25,22 +25,22 @@ use crate::script::{body_of, inside};
 use crate::total::{is_distribution, total};
 use gb_closing::counted::values_tried;
 use gb_core::SharedItems;
+use gb_core::card::card;
 use gb_core::copy::copy_ty;
+use gb_core::index::parts;
 use gb_core::name::Name;
+use gb_core::nth::nth;
 use gb_core::ty::Ty;
 use gb_core::value::{Card, Value, Values};
+use gb_dist::frac::{Frac, add};
 use gb_dist::parts::{choose, mass, restrict};
 use gb_dist::row::Row;
 use gb_dist::table::Table;
 use gb_labels::held::with_values;
 use gb_labels::labelled::labelled;
 use gb_labels::reads::{TypedVar, are_free, reads};
-use gb_num::{Frac, add};
 use gb_terms::op::Op;
 use gb_terms::term::{Form, Head, Term};
-use gb_types::card::card;
-use gb_types::index::parts;
-use gb_types::nth::nth;
 use sqlite_items::Items;
 use std::alloc::{AllocError, Global};
 

@@ -7,10 +7,10 @@ ghost use Rattle.gb_eval.specs.Known.{are_of_outcomes, has_finite_outcomes, arit
 
 use crate::script::{Script, body_of, inside};
 use gb_core::name::Name;
+use gb_core::size::is_finite;
 use gb_core::ty::Ty;
 use gb_terms::op::{Op, Read, Side};
 use gb_terms::term::{Head, Term};
-use gb_types::size::is_finite;
 
 /// Whether an operator makes a tuple of its arguments.
 pub fn is_tuple(op: Op) -> bool

@@ -4,11 +4,11 @@ ghost use Rattle.gb_eval.specs.Findings.{Gives, shown};
 ghost use Rattle.gb_eval.specs.Operators.{updated, with_entry};
 
 use crate::answer::{Answer, Stop, value_in};
+use gb_core::index::parts;
 use gb_core::ty::Ty;
 use gb_core::value::Value;
 use gb_labels::entries::entry_set;
 use gb_labels::keys::{are_keys, is_key};
-use gb_types::index::parts;
 use std::alloc::Global;
 
 /// The map of entries with a value for a key, in the order of the values of the type of the keys, where each key has a place in that.

@@ -3,8 +3,8 @@
 ghost use Rattle.std.specs.Prelude.{◌≡◌, ◌<◌, ◌^◌, List};
 ghost use Rattle.gb_core.specs.declared.ty.Ty.TheVariants as Ty;
 ghost use Rattle.gb_terms.specs.declared.op.Op.TheVariants as Op;
-ghost use Rattle.gb_num.specs.Fractions.{Fraction};
-ghost use Rattle.gb_num.specs.Operations.{Operation, outcome};
+ghost use Rattle.gb_dist.specs.Fractions.{Fraction};
+ghost use Rattle.gb_dist.specs.Operations.{Operation, outcome};
 ghost use Rattle.gb_eval.specs.Findings.{Finds, Gives, after, shown};
 ghost use Rattle.gb_eval.specs.Findings.Finding.{fraction};
 ghost use Rattle.gb_eval.specs.Operators.{absolute_of, arithmetic, as_fraction, chance, fraction_at, is_divisor, modulo, number_at, opposite, order, real_in, same, whole_at, whole_fraction};
@@ -14,8 +14,8 @@ use gb_closing::counted::difference as difference_modulo;
 use gb_core::same::same_value;
 use gb_core::ty::Ty;
 use gb_core::value::Value;
-use gb_num::whole::{difference, product, sum};
-use gb_num::{Frac, Overflow, abs, add, cmp, div_lit, mul, sub};
+use gb_dist::frac::{Frac, abs, add, cmp, div_lit, mul, sub};
+use gb_dist::whole::{Overflow, difference, product, sum};
 use gb_terms::op::Op;
 use std::cmp::Ordering;
 

@@ -3,8 +3,8 @@
 ghost use Rattle.std.specs.Prelude.{◌≡◌, IfOk, [], ◌∷◌};
 ghost use Rattle.gb_core.specs.declared.value.Value.TheVariants.{Many};
 ghost use Rattle.gb_terms.specs.declared.op.Op.TheVariants as Op;
-ghost use Rattle.gb_types.specs.Numbering.{key_of, parts_of, value_of};
-ghost use Rattle.gb_types.specs.Types.{card_of};
+ghost use Rattle.gb_core.specs.Numbering.{key_of, parts_of, value_of};
+ghost use Rattle.gb_core.specs.Types.{card_of};
 ghost use Rattle.gb_meaning.specs.Operators.{entry_of};
 ghost use Rattle.gb_meaning.specs.Values.{value_eq};
 ghost use Rattle.gb_eval.specs.Findings.{Finds, Gives, shown};
@@ -14,6 +14,9 @@ ghost use Rattle.gb_eval.specs.Operators.{binary, combined, first_among, in_map,
 
 use crate::answer::{Answer, Stop, of_truth, truth_in, value_in};
 use crate::numbers::{absolute_of, arithmetic, as_fraction, chance, opposite, order, same};
+use gb_core::card::card;
+use gb_core::index::parts;
+use gb_core::nth::nth;
 use gb_core::same::same_value;
 use gb_core::ty::Ty;
 use gb_core::value::{Card, Value, Values};
@@ -21,9 +24,6 @@ use gb_dist::combine::product;
 use gb_dist::make::{coin, dunit, uniform};
 use gb_dist::parts::weight;
 use gb_terms::op::Op;
-use gb_types::card::card;
-use gb_types::index::parts;
-use gb_types::nth::nth;
 use sqlite_items::Items;
 use std::alloc::{AllocError, Global};
 

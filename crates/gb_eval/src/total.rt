@@ -1,7 +1,7 @@
 // Denominators of distributions.
 
 ghost use Rattle.std.specs.Prelude.{◌≡◌, ◌<◌, ◌^◌, true, map, All, IfOk};
-ghost use Rattle.gb_types.specs.Types.{card_of};
+ghost use Rattle.gb_core.specs.Types.{card_of};
 ghost use Rattle.gb_dist.specs.WeightedList.{total as sum};
 ghost use Rattle.gb_dist.specs.Lists.{is_positive};
 ghost use Rattle.gb_dist.specs.Rows.{adding_steps};
@@ -13,13 +13,13 @@ ghost use Rattle.gb_eval.specs.Eval.{operators_in};
 
 use crate::answer::Stop;
 use crate::script::{Script, body_of, inside};
+use gb_core::card::card;
 use gb_core::name::Name;
 use gb_core::ty::Ty;
 use gb_core::value::Card;
 use gb_dist::number::{plus, times};
 use gb_terms::op::Op;
 use gb_terms::term::{Head, Pair, Term};
-use gb_types::card::card;
 
 /// Whether a type is one of distributions.
 pub fn is_distribution(ty: &Ty) -> bool

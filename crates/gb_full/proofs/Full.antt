@@ -44,9 +44,9 @@ use Rattle.gb_mods.specs.Meant.{meant_by}
 use Rattle.gb_mods.specs.declared.meant.Meant.{Meant}
 use Rattle.gb_mods.specs.declared.meant.Meant.TheVariants.{Unknown, Declared, Any}
 use Rattle.gb_mods.proofs.Closed.{IsIn, procedure_same}
-use Rattle.gb_adversaries.specs.Means.{IfDeclared, Means}
-use Rattle.gb_adversaries.proofs.Meanings.{if_declared, means_there}
-use Rattle.gb_adversaries.proofs.Weights.{full_of_any}
+use Rattle.gb_prog.specs.Means.{IfDeclared, Means}
+use Rattle.gb_prog.proofs.Meanings.{if_declared, means_there}
+use Rattle.gb_prog.proofs.Weights.{full_of_any}
 use Rattle.gb_full.specs.Loss.{operator_loses, full_operators, loses_by, may_lose, Loss, nowhere, sampled, called, or_after, Losses, Reached, known_of, row_loss, body_loss, procedure_loss, oracles_loss, round, rounds, losses, meant_each, meant_if, table, first_loss, code_loss}
 use Rattle.gb_full.proofs.Operators.{AreFullOperators, names_full, scope_full, unrestricted}
 use mathlib.Core.Former.{Count}

@@ -12,10 +12,10 @@ use Rattle.gb_terms.specs.declared.op.Op.TheVariants as op
 use Rattle.gb_terms.specs.declared.term.Term.{Term}
 use Rattle.gb_terms.specs.declared.term.Head.TheVariants as head
 use Rattle.gb_terms.specs.Make.{node}
-use Rattle.gb_types.specs.Numbering.{Numbering, first_or, parts_in, parts_of}
-use Rattle.gb_types.specs.Types.{finite_step, is_finite, numbering, numbering_step}
-use Rattle.gb_types.proofs.Lawful.{out-Many}
-use Rattle.gb_types.proofs.Steps.{entries_at-zero}
+use Rattle.gb_core.specs.Numbering.{Numbering, first_or, parts_in, parts_of}
+use Rattle.gb_core.specs.Types.{finite_step, is_finite, numbering, numbering_step}
+use Rattle.gb_core.proofs.Lawful.{out-Many}
+use Rattle.gb_core.proofs.Steps.{entries_at-zero}
 use Rattle.gb_meaning.proofs.Runs.{pow-pos}
 use Rattle.gb_meaning.proofs.Nodes.{val_node}
 use Rattle.gb_meaning.specs.Meanings.{value_in}

@@ -16,7 +16,7 @@ use Rattle.gb_terms.specs.declared.term.Head.TheVariants as head
 use Rattle.gb_terms.specs.declared.term.Term.{Term, Term', Row_of-Term, end_of-Term, more_of-Term, end_of-Head, more_of-Head}
 use Rattle.gb_terms.specs.Equal.{side_eq, var_eq}
 use Rattle.gb_terms.proofs.Equality.{var_eq-Decides}
-use Rattle.gb_types.specs.Numbering.{parts_of}
+use Rattle.gb_core.specs.Numbering.{parts_of}
 use Rattle.gb_walk.specs.Clash.{all_of, each_read, outside, read_by, variables_read}
 use Rattle.gb_meaning.specs.Footprints.{head_variables, variables, variables_in}
 use Rattle.gb_meaning.proofs.Maps.{get-set_other, get-set_same, path_discrete}

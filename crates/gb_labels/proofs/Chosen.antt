@@ -4,7 +4,7 @@ use Rattle.std.proofs.Math.Nat.{min-eq_left}
 use Rattle.std.proofs.lemmas.Bool.{cases_lt}
 use Rattle.std.proofs.lemmas.List.{take_all}
 use Rattle.std.proofs.lemmas.Nat.{div-mul-add, div_below, mod_below}
-use Rattle.gb_types.proofs.Capped.{min_times}
+use Rattle.gb_core.proofs.Capped.{min_times}
 use Rattle.gb_labels.specs.declared.labels.Label.{Label}
 use Rattle.gb_labels.specs.Labels.{Labels, choices, choice_at}
 

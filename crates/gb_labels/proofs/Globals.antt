@@ -7,9 +7,9 @@ use Rattle.gb_core.specs.declared.ty.Ty.{Ty, Row_of-Ty, end_of-Ty, more_of-Ty}
 use Rattle.gb_core.specs.declared.ty.Ty.TheVariants as ty
 use Rattle.gb_core.specs.declared.value.Value.{Value}
 use Rattle.gb_core.specs.declared.value.Value.TheVariants.{Many}
-use Rattle.gb_types.specs.Numbering.{Numbering, numbers, uncounted, tuples, is_tuple, is_many, is_many_in, parts_in, parts_of, tuple_of, option_of, map_of}
-use Rattle.gb_types.proofs.Lawful.{out-Many, Many-parts_of}
-use Rattle.gb_types.proofs.Steps.{factors}
+use Rattle.gb_core.specs.Numbering.{Numbering, numbers, uncounted, tuples, is_tuple, is_many, is_many_in, parts_in, parts_of, tuple_of, option_of, map_of}
+use Rattle.gb_core.proofs.Lawful.{out-Many, Many-parts_of}
+use Rattle.gb_core.proofs.Steps.{factors}
 use Rattle.gb_meaning.specs.Names.{Name, get}
 use Rattle.gb_meaning.specs.Values.{Global, Types, values_by, all_values_by, boxed_values_by, footprint_values, has, values, first, fit}
 use Rattle.gb_meaning.specs.Memory.{Memory, read_global, read_globals, write_global, write_globals}

@@ -6,7 +6,7 @@ use Rattle.gb_core.specs.declared.ty.Ty.{Ty}
 use Rattle.gb_core.specs.declared.value.Value.{Value}
 use Rattle.gb_core.specs.declared.var.Var.{Var}
 use Rattle.gb_core.specs.declared.var.Var.TheVariants.{Global, Local, Glob}
-use Rattle.gb_types.specs.Numbering.{Numbering, parts_of}
+use Rattle.gb_core.specs.Numbering.{Numbering, parts_of}
 use Rattle.gb_terms.specs.Equal.{var_eq}
 use Rattle.gb_terms.specs.declared.module.Mexp.TheVariants.{Name as named}
 use Rattle.gb_meaning.specs.Names.{Name, get}

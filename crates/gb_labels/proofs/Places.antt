@@ -9,8 +9,8 @@ use Rattle.gb_core.specs.declared.value.Value.{Value}
 use Rattle.gb_core.specs.declared.value.Value.TheVariants.{Num}
 use Rattle.gb_core.specs.declared.value.Card.{Card}
 use Rattle.gb_core.specs.declared.value.Card.TheVariants.{Exact, Above}
-use Rattle.gb_types.specs.Numbering.{Numbering, numbers, number_of, parts_of, key_of, first_or}
-use Rattle.gb_types.specs.Types.{numbering, numbering_step, card_of, is_finite, size_of, place_of, IsExact, IsValue}
+use Rattle.gb_core.specs.Numbering.{Numbering, numbers, number_of, parts_of, key_of, first_or}
+use Rattle.gb_core.specs.Types.{numbering, numbering_step, card_of, is_finite, size_of, place_of, IsExact, IsValue}
 use Rattle.gb_labels.specs.Keys.{are_keys, is_among, is_key, is_of_numbers}
 
 -- the first part of an entry is its key

@@ -6,8 +6,8 @@ use Rattle.gb_core.specs.declared.ty.Ty.TheVariants as ty
 use Rattle.gb_core.specs.declared.value.Value.{Value}
 use Rattle.gb_core.specs.declared.value.Card.{Card}
 use Rattle.gb_core.specs.declared.value.Card.TheVariants.{Exact, Above}
-use Rattle.gb_types.specs.Numbering.{key_of}
-use Rattle.gb_types.specs.Types.{card_of, numbering}
+use Rattle.gb_core.specs.Numbering.{key_of}
+use Rattle.gb_core.specs.Types.{card_of, numbering}
 
 -- types whose values are numbers, each its own place
 abbrev pub is_of_numbers : Ty → Bool

@@ -3,8 +3,8 @@
 ghost use Rattle.std.specs.Prelude.{◌≡◌, ◌≤◌, ◌<◌, ◌++◌, ◌∷◌, [], true, length, take, drop, get_or, OnOk, IfOk};
 ghost use Rattle.gb_core.specs.declared.value.Value.{Value};
 ghost use Rattle.gb_core.specs.declared.value.Value.TheVariants.{Many};
-ghost use Rattle.gb_types.specs.Numbering.{key_of};
-ghost use Rattle.gb_types.specs.Types.{numbering, place_of};
+ghost use Rattle.gb_core.specs.Numbering.{key_of};
+ghost use Rattle.gb_core.specs.Types.{numbering, place_of};
 ghost use Rattle.gb_meaning.specs.Operators.{entry_set};
 ghost use Rattle.gb_labels.specs.Keys.{are_keys, is_key};
 

@@ -1,15 +1,15 @@
 // Keys of maps.
 
 ghost use Rattle.std.specs.Prelude.{◌≡◌, true};
-ghost use Rattle.gb_types.specs.Numbering.{key_of};
-ghost use Rattle.gb_types.specs.Types.{card_of, place_of};
+ghost use Rattle.gb_core.specs.Numbering.{key_of};
+ghost use Rattle.gb_core.specs.Types.{card_of, place_of};
 ghost use Rattle.gb_labels.specs.Keys.{are_keys, is_among, is_key, is_of_numbers};
 
 use gb_closing::members::has;
+use gb_core::card::card;
+use gb_core::index::{index, number, parts};
 use gb_core::ty::Ty;
 use gb_core::value::{Card, Value};
-use gb_types::card::card;
-use gb_types::index::{index, number, parts};
 
 /// Whether the values of a type are numbers, each its own place.
 fn is_of_numbers(ty: &Ty) -> bool

@@ -5,7 +5,7 @@ use Rattle.gb_core.specs.declared.var.Var.{Var}
 use Rattle.gb_core.specs.declared.var.Var.TheVariants as var
 use Rattle.gb_core.specs.declared.value.Value.{Value}
 use Rattle.gb_core.specs.declared.value.Value.TheVariants.{Many}
-use Rattle.gb_types.specs.Numbering.{parts_of}
+use Rattle.gb_core.specs.Numbering.{parts_of}
 use Rattle.gb_terms.specs.declared.module.Mexp.TheVariants.{Name as named}
 use Rattle.gb_meaning.specs.Values.{Global, Types}
 use Rattle.gb_meaning.specs.Memory.{Memory, read, read_global, read_globals, write, write_globals, write_each, assigned}

@@ -3,9 +3,9 @@ use Rattle.std.proofs.Common.{◌≡◌, ℕ, ◌+◌, ◌≤◌, Bool, true, fa
 use Rattle.std.proofs.lemmas.Bool.{ltb-true, ltb-false, le-leb, and_from, and_parts}
 use Rattle.gb_core.specs.declared.value.Value.{Value}
 use Rattle.gb_core.specs.declared.value.Value.TheVariants.{Num, Many}
-use Rattle.gb_types.specs.Numbering.{Numbering, is_many_in, parts_in, first_or, second_or, key_of, value_of, is_option, is_entry, are_entries}
-use Rattle.gb_types.proofs.Lawful.{Lawful, out-Many}
-use Rattle.gb_types.proofs.Maps.{front_of}
+use Rattle.gb_core.specs.Numbering.{Numbering, is_many_in, parts_in, first_or, second_or, key_of, value_of, is_option, is_entry, are_entries}
+use Rattle.gb_core.proofs.Lawful.{Lawful, out-Many}
+use Rattle.gb_core.proofs.Maps.{front_of}
 use Rattle.gb_meaning.specs.Values.{value_eq}
 use Rattle.gb_meaning.specs.Operators.{entry_of, entry_set}
 

@@ -7,8 +7,8 @@ use Rattle.gb_core.specs.declared.ty.Ty.{Ty}
 use Rattle.gb_core.specs.declared.ty.Ty.TheVariants as ty
 use Rattle.gb_core.specs.declared.value.Value.{Value}
 use Rattle.gb_core.specs.declared.value.Value.TheVariants.{Num, Many}
-use Rattle.gb_types.specs.Numbering.{numbers, is_many_in, parts_in, parts_of, is_many}
-use Rattle.gb_types.proofs.Lawful.{Lawful-numbers, out-Many}
+use Rattle.gb_core.specs.Numbering.{numbers, is_many_in, parts_in, parts_of, is_many}
+use Rattle.gb_core.proofs.Lawful.{Lawful-numbers, out-Many}
 use Rattle.gb_dist.specs.WeightedList.{Every, bit}
 use Rattle.gb_dist.proofs.Entries.{Every-scale}
 use Rattle.gb_meaning.specs.Fractions.{Fraction, quotient}

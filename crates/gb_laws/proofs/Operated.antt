@@ -5,7 +5,7 @@ use Rattle.gb_core.specs.declared.ty.Ty.{Ty, Row_of-Ty, end_of-Ty, more_of-Ty}
 use Rattle.gb_core.specs.declared.ty.Ty.TheVariants as ty
 use Rattle.gb_core.specs.declared.value.Value.{Value}
 use Rattle.gb_core.specs.declared.value.Value.TheVariants.{Num, Many}
-use Rattle.gb_types.specs.Numbering.{Numbering, parts_of, numbers, is_tuple, is_option, first_or, are_entries}
+use Rattle.gb_core.specs.Numbering.{Numbering, parts_of, numbers, is_tuple, is_option, first_or, are_entries}
 use Rattle.gb_dist.specs.WeightedList.{WeightedList, Every, unit}
 use Rattle.gb_dist.proofs.Entries.{Every-append, Every-bind, Every-dmap}
 use Rattle.gb_terms.specs.declared.op.Op.{Op}

@@ -8,7 +8,7 @@ use Rattle.gb_core.specs.declared.value.Value.{Value}
 use Rattle.gb_core.specs.declared.value.Value.TheVariants.{Many}
 use Rattle.gb_core.specs.declared.var.Var.{Var}
 use Rattle.gb_core.specs.declared.var.Var.TheVariants as var
-use Rattle.gb_types.specs.Numbering.{Numbering, numbers, is_tuple, parts_of}
+use Rattle.gb_core.specs.Numbering.{Numbering, numbers, is_tuple, parts_of}
 use Rattle.gb_dist.specs.WeightedList.{WeightedList, Every}
 use Rattle.gb_dist.proofs.Entries.{Every-bind, Every-dmap, Every-scale}
 use Rattle.gb_terms.specs.declared.module.Mexp.TheVariants.{Name as named}

@@ -5,8 +5,8 @@ use Rattle.std.proofs.lemmas.Bool.{false≢true, and_from}
 use Rattle.gb_core.specs.declared.ty.Ty.{Ty, Row_of-Ty, end_of-Ty, more_of-Ty}
 use Rattle.gb_core.specs.declared.ty.Ty.TheVariants as ty
 use Rattle.gb_core.specs.declared.value.Value.{Value}
-use Rattle.gb_types.specs.Numbering.{Numbering, numbers, uncounted, tuples, is_tuple, is_many_in, parts_in, choices, tuple_of, option_of, map_of}
-use Rattle.gb_types.proofs.Lawful.{out-Many}
+use Rattle.gb_core.specs.Numbering.{Numbering, numbers, uncounted, tuples, is_tuple, is_many_in, parts_in, choices, tuple_of, option_of, map_of}
+use Rattle.gb_core.proofs.Lawful.{out-Many}
 use Rattle.gb_terms.specs.declared.module.Mexp.TheVariants.{Name as named}
 use Rattle.gb_meaning.specs.Names.{Name, get}
 use Rattle.gb_meaning.specs.Values.{Global, Types, values_by, all_values_by, boxed_values_by, values, first, has, fit}

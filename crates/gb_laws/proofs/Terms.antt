@@ -8,7 +8,7 @@ use Rattle.gb_core.specs.declared.value.Value.{Value}
 use Rattle.gb_core.specs.declared.value.Value.TheOpen as v
 use Rattle.gb_core.specs.declared.value.Value.TheViews.{out-Value}
 use Rattle.gb_core.specs.declared.var.Var.TheVariants as var
-use Rattle.gb_types.specs.Numbering.{is_below_in}
+use Rattle.gb_core.specs.Numbering.{is_below_in}
 use Rattle.gb_dist.specs.WeightedList.{WeightedList, Every, weight, dmap}
 use Rattle.gb_dist.proofs.Entries.{Every-dmap}
 use Rattle.gb_terms.specs.declared.module.Mexp.TheVariants.{Name as named}

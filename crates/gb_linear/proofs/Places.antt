@@ -1,7 +1,7 @@
 -- The summand of a term among others.
 use Rattle.std.proofs.Common.{◌≡◌, ℕ, suc, ◌<◌, Bool, true, false, if◌then◌else◌, List, [], ◌∷◌, Some, length, refl, sym, ap, ◌∙◌, subst, arith}
 use Rattle.std.specs.List.{remove, slice_get}
-use Rattle.gb_num.specs.Fractions.{Fraction}
+use Rattle.gb_dist.specs.Fractions.{Fraction}
 use Rattle.gb_terms.specs.declared.term.Term.{Term}
 use Rattle.gb_closing.specs.declared.summands.Summand.{Summand}
 use Rattle.gb_closing.specs.Numbers as numbers

@@ -3,8 +3,8 @@ use Rattle.std.proofs.Common.{◌≡◌, ◌^◌, ◌<◌, ◌≤◌, ℤ, unsig
 use Rattle.gb_terms.specs.declared.term.Term.{Term, Term', Row_of-Term, end_of-Term, more_of-Term, end_of-Head, more_of-Head, items-the_row-Term, items_shown-the_row-Term-0}
 use Rattle.gb_terms.specs.declared.term.Head.TheViews.{out-Term, outs-struct-Term}
 use Rattle.gb_core.specs.declared.ty.Ty.{Ty}
-use Rattle.gb_num.specs.Fractions.{of_whole}
-use Rattle.gb_num.proofs.Sizes.{small, large}
+use Rattle.gb_dist.specs.Fractions.{of_whole}
+use Rattle.gb_dist.proofs.Sizes.{small, large}
 use Rattle.gb_terms.specs.declared.op.Op.{Op}
 use Rattle.gb_terms.specs.declared.term.Head.{Head}
 use Rattle.gb_goal.specs.Answers.Answer.{given}

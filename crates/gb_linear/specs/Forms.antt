@@ -1,7 +1,7 @@
 -- Linear forms: a constant, and different terms with their coefficients.
 use Rattle.std.specs.Prelude.{ℕ, suc, Bool, true, false, if◌then◌else◌, List, [], ◌∷◌}
 use Rattle.std.specs.List.{list_all}
-use Rattle.gb_num.specs.Fractions.{Fraction}
+use Rattle.gb_dist.specs.Fractions.{Fraction}
 use Rattle.gb_terms.specs.declared.term.Term.{Term}
 use Rattle.gb_meaning.proofs.SameTerms.{same_terms}
 use Rattle.gb_goal.specs.Answers.{Answer, ◌>>=◌}

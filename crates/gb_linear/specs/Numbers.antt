@@ -1,8 +1,8 @@
 -- Operations on exact fractions, each with its refusal.
 use Rattle.std.specs.Prelude.{Bool, ◌&&◌, ◌==◌, int_lt, pos}
 use Rattle.std.specs.Ordering.{int_eq}
-use Rattle.gb_num.specs.Fractions.{Fraction, times, over, of_whole, reduced}
-use Rattle.gb_num.specs.Operations.{outcome, times_steps, over_steps}
+use Rattle.gb_dist.specs.Fractions.{Fraction, times, over, of_whole, reduced}
+use Rattle.gb_dist.specs.Operations.{outcome, times_steps, over_steps}
 use Rattle.gb_goal.specs.Answers.{Answer}
 use Rattle.gb_closing.specs.Numbers.{in_range}
 use Rattle.gb_linear.specs.declared.numbers.Stands.{Stands}

@@ -9,7 +9,7 @@ use crate::numbers::{Stands, is_zero, multiplied};
 use gb_closing::numbers::{Sign, operated};
 use gb_closing::summands::{Summand, Summands, besides, with_coefficient};
 use gb_core::refusal::Refused;
-use gb_num::Frac;
+use gb_dist::frac::Frac;
 use gb_terms::same::same;
 use gb_terms::term::Term;
 use sqlite_items::Items;

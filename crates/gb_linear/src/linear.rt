@@ -14,7 +14,7 @@ use crate::numbers::{Stands, inverse, is_divisor};
 use gb_closing::numbers::Sign;
 use gb_core::refusal::Refused;
 use gb_core::ty::Ty;
-use gb_num::Frac;
+use gb_dist::frac::Frac;
 use gb_terms::op::Op;
 use gb_terms::term::{Head, Term};
 use std::alloc::{AllocError, Global};

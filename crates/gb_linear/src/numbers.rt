@@ -6,7 +6,7 @@ ghost use Rattle.gb_linear.specs.Numbers.{inverse, is_divisor, is_positive, is_z
 
 use gb_closing::numbers::in_range;
 use gb_core::refusal::Refused;
-use gb_num::{Frac, div_lit, mul};
+use gb_dist::frac::{Frac, div_lit, mul};
 
 /// On which side of a number a factor stands.
 #[derive(Clone, Copy)]

@@ -21,7 +21,7 @@ use Rattle.gb_mods.specs.Meant.{meant_by}
 use Rattle.gb_mods.specs.Order.{joined}
 use Rattle.gb_mods.specs.Written.{row_targets, statement_targets, targets, written_if}
 use Rattle.gb_mods.proofs.Closed.{IsIn}
-use Rattle.gb_adversaries.specs.Means.{Means}
+use Rattle.gb_prog.specs.Means.{Means}
 use Rattle.gb_call.proofs.Unwritten.{reached_left, spares_append, spares_joined}
 use Rattle.gb_forms.specs.Loops.{written}
 use mathlib.Core.Former.{Count}

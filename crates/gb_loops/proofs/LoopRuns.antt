@@ -19,7 +19,7 @@ use Rattle.gb_typing.specs.Meaning.{run}
 use Rattle.gb_typing.specs.Rules.{IsSettingOver}
 use Rattle.gb_typing.specs.Scopes.{IsTypedScope}
 use Rattle.gb_typing.proofs.Drawing.{body_sound}
-use Rattle.gb_adversaries.proofs.Meanings.{means_there}
+use Rattle.gb_prog.proofs.Meanings.{means_there}
 use Rattle.gb_prog.specs.Writes.{DifferIn, WritesWithin}
 use Rattle.gb_prog.proofs.Reached.{good_anywhere}
 use Rattle.gb_prog.proofs.Within.{within_while}

@@ -39,7 +39,7 @@ use Rattle.gb_typing.specs.Context.{Context}
 use Rattle.gb_typing.specs.Fits.{IsSettingOf, IsStateOf}
 use Rattle.gb_typing.specs.Goals.{IsGoalOver}
 use Rattle.gb_mods.specs.Exclusions.{exclusions}
-use Rattle.gb_adversaries.proofs.KeptOff.{kept_off}
+use Rattle.gb_prog.proofs.KeptOff.{kept_off}
 use Rattle.gb_typing.specs.Meaning.{run, denominator}
 use Rattle.gb_typing.specs.Programs.{HaveVariableTypes, IsBody}
 use Rattle.gb_typing.specs.Rules.{IsSettingOver, outermost}

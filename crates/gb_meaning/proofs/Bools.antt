@@ -3,8 +3,8 @@ use Rattle.std.proofs.Common.{◌≡◌, ℕ, zero, suc, ◌<◌, Bool, true, fa
 use Rattle.std.proofs.lemmas.Bool.{and_parts, and_from}
 use native.Mathlib.Decide.{ℕ_discrete}
 use Rattle.gb_core.specs.declared.value.Value.{Value}
-use Rattle.gb_types.specs.Numbering.{Numbering}
-use Rattle.gb_types.proofs.Lawful.{Lawful}
+use Rattle.gb_core.specs.Numbering.{Numbering}
+use Rattle.gb_core.proofs.Lawful.{Lawful}
 use Rattle.gb_meaning.specs.Terms.{each_below, some_below, each_value, some_value}
 
 pub same_truth : (a b : Bool) → (a ≡ true → b ≡ true) → (b ≡ true → a ≡ true) → a ≡ b

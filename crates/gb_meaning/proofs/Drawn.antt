@@ -5,7 +5,7 @@ use Rattle.std.proofs.Math.Nat.{mul-pos}
 use Rattle.std.proofs.lemmas.Bool.{false≢true, ltb-true, and_parts}
 use Rattle.gb_core.specs.declared.ty.Ty.{Ty}
 use Rattle.gb_core.specs.declared.value.Value.{Value}
-use Rattle.gb_types.specs.Numbering.{Numbering}
+use Rattle.gb_core.specs.Numbering.{Numbering}
 use Rattle.gb_dist.specs.WeightedList.{WeightedList, total, unit, dmap, scale, IsPositive}
 use Rattle.gb_dist.proofs.Masses.{mass-append, mass-scale, mass-dmap, total-bind}
 use Rattle.gb_dist.proofs.Entries.{On-append, On-scale, On-bind, On-dmap}

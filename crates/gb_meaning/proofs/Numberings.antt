@@ -3,9 +3,9 @@ use Rattle.std.proofs.Common.{◌≡◌, ℕ, Bool, true, false, if◌then◌els
 use Rattle.gb_core.specs.declared.ty.Ty.{Ty, Row_of-Ty, end_of-Ty, more_of-Ty}
 use Rattle.gb_core.specs.declared.ty.Ty.TheVariants as ty
 use Rattle.gb_core.specs.declared.value.Value.{Value}
-use Rattle.gb_types.specs.Numbering.{Numbering, numbers, uncounted}
-use Rattle.gb_types.proofs.Lawful.{Lawful, AllLawful, Lawful-numbers, Lawful-uncounted, Lawful-tuple, Lawful-option}
-use Rattle.gb_types.proofs.Maps.{Lawful-map}
+use Rattle.gb_core.specs.Numbering.{Numbering, numbers, uncounted}
+use Rattle.gb_core.proofs.Lawful.{Lawful, AllLawful, Lawful-numbers, Lawful-uncounted, Lawful-tuple, Lawful-option}
+use Rattle.gb_core.proofs.Maps.{Lawful-map}
 use Rattle.gb_meaning.specs.Names.{Name}
 use Rattle.gb_meaning.specs.Values.{Global, Types, values_by, all_values_by, boxed_values_by, values, first, has, fit}
 use mathlib.Core.Former.{Count}

@@ -8,8 +8,8 @@ use Rattle.gb_core.specs.declared.ty.Ty.TheOpen as layer
 use Rattle.gb_core.specs.declared.ty.Ty.TheBlock as B
 use Rattle.gb_core.specs.declared.ty.Ty.TheViews.{roll-out-Ty}
 use Rattle.gb_core.specs.declared.ty.Ty.TheFolds.{fold-Ty, fold-roll-Ty}
-use Rattle.gb_types.specs.Numbering.{Numbering, tuple_of, option_of, map_of}
-use Rattle.gb_types.specs.Types.{numbering_step, numbering, finite_step, is_finite, all_true}
+use Rattle.gb_core.specs.Numbering.{Numbering, tuple_of, option_of, map_of}
+use Rattle.gb_core.specs.Types.{numbering_step, numbering, finite_step, is_finite, all_true}
 use Rattle.gb_meaning.specs.Names.{Name}
 use Rattle.gb_meaning.specs.Values.{Types, values_by, all_values_by, values}
 use mathlib.Core.Former.{Count}

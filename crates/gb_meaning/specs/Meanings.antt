@@ -3,7 +3,7 @@ use Rattle.std.specs.Prelude.{ℕ, ◌==◌, Bool, false, ℤ, pos, []}
 use Rattle.std.specs.Ordering.{int_eq}
 use Rattle.gb_core.specs.declared.value.Value.{Value}
 use Rattle.gb_core.specs.declared.value.Value.TheVariants.{Num}
-use Rattle.gb_types.specs.Numbering.{number_of}
+use Rattle.gb_core.specs.Numbering.{number_of}
 use Rattle.gb_dist.specs.WeightedList.{WeightedList, scale, bit}
 use Rattle.gb_meaning.specs.Fractions.{Fraction, is_same, of_whole}
 use Rattle.gb_meaning.specs.Setting.{Meaning}

@@ -4,7 +4,7 @@ use Rattle.gb_core.specs.declared.ty.Ty.{Ty, Row_of-Ty, end_of-Ty, more_of-Ty}
 use Rattle.gb_core.specs.declared.ty.Ty.TheVariants as ty
 use Rattle.gb_core.specs.declared.value.Value.{Value}
 use Rattle.gb_core.specs.declared.value.Value.TheVariants.{Num, Many}
-use Rattle.gb_types.specs.Numbering.{Numbering, parts_of, first_or, key_of, value_of}
+use Rattle.gb_core.specs.Numbering.{Numbering, parts_of, first_or, key_of, value_of}
 use Rattle.gb_dist.specs.WeightedList.{weight, unit}
 use Rattle.gb_terms.specs.declared.op.Op.{Op}
 use Rattle.gb_terms.specs.declared.op.Op.TheVariants as op

@@ -4,7 +4,7 @@ use Rattle.gb_core.specs.declared.ty.Ty.{Ty, Row_of-Ty, end_of-Ty, more_of-Ty}
 use Rattle.gb_core.specs.declared.ty.Ty.TheVariants as ty
 use Rattle.gb_core.specs.declared.value.Value.{Value, Row_of-Value, end_of-Value, more_of-Value}
 use Rattle.gb_core.specs.declared.value.Value.TheVariants.{Num, Many'}
-use Rattle.gb_types.specs.Numbering.{Numbering, numbers, uncounted, tuple_of, option_of, map_of}
+use Rattle.gb_core.specs.Numbering.{Numbering, numbers, uncounted, tuple_of, option_of, map_of}
 use Rattle.gb_terms.specs.declared.module.Mexp.{Mexp}
 use Rattle.gb_terms.specs.declared.module.Mexp.TheVariants.{Name as named}
 use Rattle.gb_meaning.specs.Names.{Name}

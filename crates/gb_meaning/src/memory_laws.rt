@@ -3,7 +3,7 @@
 ghost use Rattle.std.specs.Prelude.{◌≡◌, ◌≢◌, ◌<◌, ℕ, Bool, true, [], ◌∷◌, Some};
 ghost use Rattle.gb_core.specs.declared.ty.Ty.{Ty};
 ghost use Rattle.gb_core.specs.declared.value.Value.{Value};
-ghost use Rattle.gb_types.specs.Types.{numbering, is_finite};
+ghost use Rattle.gb_core.specs.Types.{numbering, is_finite};
 ghost use Rattle.gb_meaning.specs.Names.{Name, Path, Map, get, set};
 ghost use Rattle.gb_meaning.specs.Values.{Global, Types, values, has};
 ghost use Rattle.gb_meaning.specs.Memory.{Memory, read_global, read_local, write_global, write_local};

@@ -2,7 +2,7 @@
 use Rattle.std.specs.Prelude.{ℕ, ◌==◌, ◌-◌, Bool, true, false, ◌&&◌, nat_lt, if◌then◌else◌, List, slice_get, Option, Some, None}
 use Rattle.gb_core.specs.declared.ty.Ty.{Ty, out-Ty}
 use Rattle.gb_core.specs.declared.ty.Ty.TheOpen as layer
-use Rattle.gb_types.specs.Types.{is_finite, size_of}
+use Rattle.gb_core.specs.Types.{is_finite, size_of}
 
 abbrev pub is_ordered_layer : layer.Ty-F Ty → Bool
 is_ordered_layer (layer.Mod n) = true

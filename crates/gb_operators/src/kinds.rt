@@ -5,8 +5,8 @@ ghost use Rattle.std.specs.Option.{option_copied, option_map};
 ghost use Rattle.gb_operators.specs.Kinds.{component, components, element, entries, inside_option, is_arithmetic, is_of_bits, is_of_numbers, is_of_values, is_ordered, is_signed, is_small, outcome};
 
 use gb_core::Shared;
+use gb_core::size::{is_finite, size};
 use gb_core::ty::Ty;
-use gb_types::size::{is_finite, size};
 
 /// The most values of a type that has a uniform distribution.
 const VALUES: u64 = 65_536;

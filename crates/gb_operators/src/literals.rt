@@ -16,6 +16,7 @@ use gb_core::Shared;
 use gb_core::name::Name;
 use gb_core::place::Place;
 use gb_core::refusal::Refused;
+use gb_core::size::power;
 use gb_core::ty::Ty;
 use gb_core::value::Value;
 use gb_limits::numbers::number;
@@ -25,7 +26,6 @@ use gb_names::setting::Setting;
 use gb_script::head::Head as NodeHead;
 use gb_script::tree::Node;
 use gb_terms::term::{Head, Term};
-use gb_types::size::power;
 use std::alloc::Global;
 
 /// Numbers of values are below this one.

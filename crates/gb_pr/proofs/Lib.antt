@@ -1,3 +1,7 @@
+pub mod HoareIsSound
+pub mod RndIsSound
+pub mod RndSteps
+pub mod ChanceRulesAreSound
 pub mod BoundedForms
 pub mod ByEquivIsSound
 pub mod ByEventsAreSound

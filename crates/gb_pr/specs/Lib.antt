@@ -1,3 +1,6 @@
+pub mod Hoare
+pub mod Rnd
+pub mod ChanceRows
 pub mod ByEquiv
 pub mod ByEvents
 pub mod ByPhoare

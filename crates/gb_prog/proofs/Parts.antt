@@ -10,8 +10,8 @@ use Rattle.gb_core.specs.declared.ty.Ty.TheOpen as layer
 use Rattle.gb_core.specs.declared.var.Var.{Var}
 use Rattle.gb_core.specs.declared.value.Value.{Value}
 use Rattle.gb_core.specs.declared.value.Value.TheVariants.{Num, Many}
-use Rattle.gb_types.specs.Numbering.{Numbering, numbers, parts_in as value_parts_in, parts_of, is_tuple}
-use Rattle.gb_types.proofs.Lawful.{out-Many}
+use Rattle.gb_core.specs.Numbering.{Numbering, numbers, parts_in as value_parts_in, parts_of, is_tuple}
+use Rattle.gb_core.proofs.Lawful.{out-Many}
 use Rattle.gb_terms.specs.declared.decl.TypedName.{TypedName}
 use Rattle.gb_terms.specs.declared.module.Mexp.TheVariants.{Name as named}
 use Rattle.gb_terms.specs.declared.op.Op.TheVariants as op

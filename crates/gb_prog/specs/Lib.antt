@@ -1,3 +1,12 @@
+pub mod Coupled
+pub mod Until
+pub mod KeptProperty
+pub mod OracleJudged
+pub mod Kept
+pub mod AnyOf
+pub mod BothAnyOf
+pub mod Carried
+pub mod Means
 pub mod Compared
 pub mod Judged
 pub mod Likely

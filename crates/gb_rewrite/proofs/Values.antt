@@ -6,7 +6,7 @@ use Rattle.gb_core.specs.declared.ty.Ty.{Ty}
 use Rattle.gb_core.specs.declared.ty.Ty.TheVariants as ty
 use Rattle.gb_core.specs.declared.value.Value.{Value}
 use Rattle.gb_core.specs.declared.value.Value.TheVariants.{Num}
-use Rattle.gb_types.specs.Numbering.{number_of}
+use Rattle.gb_core.specs.Numbering.{number_of}
 use Rattle.gb_meaning.specs.Setting.{Meaning}
 use Rattle.gb_meaning.specs.Setting.Meaning.{finite, whole, fraction, weights}
 use Rattle.gb_meaning.specs.Meanings.{same, truth}

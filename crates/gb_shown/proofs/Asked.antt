@@ -17,7 +17,7 @@ use Rattle.gb_meaning.specs.Names.{Name}
 use Rattle.gb_mods.specs.Asked.{all_oracles, asked_by, asked_for, oracles_if, oracles_in, oracles_named, signature_of}
 use Rattle.gb_mods.specs.Meant.{meant_by}
 use Rattle.gb_mods.specs.declared.meant.Meant.TheVariants.{Any}
-use Rattle.gb_adversaries.proofs.There.{abstract_there}
+use Rattle.gb_prog.proofs.There.{abstract_there}
 use Rattle.gb_print_names.specs.declared.bound_names.Enumeration.{Enumeration}
 use Rattle.gb_print.specs.Written.{is_name_text, is_path, IsWrittenProcedure}
 use Rattle.gb_shown.proofs.Sequents.{all_append}

@@ -27,9 +27,9 @@ use Rattle.gb_prog.specs.Compared.{literal}
 use Rattle.gb_full.specs.Loss.{Loss, nowhere, sampled, called, first_loss, code_loss}
 use Rattle.gb_equiv.specs.Drawn.{clashing}
 use Rattle.gb_full.specs.Lossless.{full, of_rest}
-use Rattle.gb_phoare.specs.Hoare.{never, at_most_goals, at_least_goals, exactly, hoare_row}
-use Rattle.gb_phoare.specs.Rnd.{measured, without_sampling, unless_clash, by_end, rnd_row}
-use Rattle.gb_phoare.specs.Rows.{chance_row}
+use Rattle.gb_pr.specs.Hoare.{never, at_most_goals, at_least_goals, exactly, hoare_row}
+use Rattle.gb_pr.specs.Rnd.{measured, without_sampling, unless_clash, by_end, rnd_row}
+use Rattle.gb_pr.specs.ChanceRows.{chance_row}
 use Rattle.gb_print_names.specs.declared.bound_names.Enumeration.{Enumeration}
 use Rattle.gb_shown.specs.Named.{IsNamed, IsNamedCode, IsNamedGoal}
 use Rattle.gb_shown.specs.Rules.{KeepsNames}

@@ -10,7 +10,7 @@ use Rattle.gb_mods.specs.Called.{added, all_reached, called, called_by, calls, i
 use Rattle.gb_mods.specs.Meant.{meant_by}
 use Rattle.gb_mods.specs.declared.meant.Meant.{Meant}
 use Rattle.gb_mods.specs.declared.meant.Meant.TheVariants.{Unknown, Declared, Any}
-use Rattle.gb_adversaries.proofs.Meanings.{declared_there}
+use Rattle.gb_prog.proofs.Meanings.{declared_there}
 use Rattle.gb_print_names.specs.declared.bound_names.Enumeration.{Enumeration}
 use Rattle.gb_print.specs.Written.{IsWrittenProcedure}
 use Rattle.gb_shown.specs.Named.{IsNamedInstr, AreNamedInstrs}

@@ -36,7 +36,7 @@ use Rattle.gb_mods.specs.Called.{all_reached, row_calls}
 use Rattle.gb_mods.specs.Meant.{in_front, meant_by}
 use Rattle.gb_mods.specs.declared.meant.Meant.{Meant}
 use Rattle.gb_mods.specs.declared.meant.Meant.TheVariants.{Unknown, Declared, Any}
-use Rattle.gb_adversaries.proofs.Meanings.{declared_there}
+use Rattle.gb_prog.proofs.Meanings.{declared_there}
 use Rattle.gb_labels.specs.declared.reads.TypedVar.{TypedVar}
 use Rattle.gb_labels.specs.Reads.{Vars}
 use Rattle.gb_forms.specs.Ordered.{is_same, placed, joined}

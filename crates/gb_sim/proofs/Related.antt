@@ -7,8 +7,8 @@ use Rattle.gb_core.specs.declared.ty.Ty.TheVariants as ty
 use Rattle.gb_core.specs.declared.value.Value.TheVariants.{Num}
 use Rattle.gb_core.specs.declared.var.Var.{Var}
 use Rattle.gb_core.specs.declared.var.Var.TheVariants as var
-use Rattle.gb_types.specs.Numbering.{parts_in, parts_of}
-use Rattle.gb_types.proofs.Lawful.{out-Many}
+use Rattle.gb_core.specs.Numbering.{parts_in, parts_of}
+use Rattle.gb_core.proofs.Lawful.{out-Many}
 use Rattle.gb_terms.specs.declared.decl.TypedName.{TypedName}
 use Rattle.gb_terms.specs.declared.module.Mexp.TheVariants.{Name as named}
 use Rattle.gb_terms.specs.declared.op.Op.TheVariants as op

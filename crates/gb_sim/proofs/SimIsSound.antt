@@ -19,7 +19,7 @@ use Rattle.gb_goal.specs.Goal.Code.{body, procedure}
 use Rattle.gb_goal.specs.Goal.Goal.{hoare, phoare, equiv, ambient}
 use Rattle.gb_goal.specs.Scope.{Declarations, procedure_of}
 use Rattle.gb_mods.specs.Exclusions.{exclusions}
-use Rattle.gb_adversaries.proofs.KeptOff.{kept_off}
+use Rattle.gb_prog.proofs.KeptOff.{kept_off}
 use Rattle.gb_goal.specs.declared.sequent.Sequent.{Sequent}
 use Rattle.gb_meaning.specs.Declared.{declared}
 use Rattle.gb_typing.specs.Context.{Context}
@@ -40,8 +40,8 @@ use Rattle.gb_typing.proofs.Located.{typed_there}
 use Rattle.gb_typing.proofs.Together.{goal_together}
 use Rattle.gb_mods.specs.Meant.{meant_by}
 use Rattle.gb_mods.specs.declared.meant.Meant.TheVariants.{Any}
-use Rattle.gb_adversaries.proofs.Meanings.{means_there}
-use Rattle.gb_adversaries.proofs.There.{abstract_named}
+use Rattle.gb_prog.proofs.Meanings.{means_there}
+use Rattle.gb_prog.proofs.There.{abstract_named}
 use Rattle.gb_prog.specs.Ends.{LoopsEnd}
 use Rattle.gb_full.proofs.Operators.{scope_full}
 use Rattle.gb_labels.specs.Reads.{Vars}

@@ -49,7 +49,7 @@ use Rattle.gb_goal.specs.Scope.{Declarations, procedure_of}
 use Rattle.gb_mods.specs.Called.{all_reached, row_calls}
 use Rattle.gb_mods.specs.Meant.{meant_by}
 use Rattle.gb_mods.proofs.Closed.{AreFollowed, IsIn, all_closed}
-use Rattle.gb_adversaries.specs.Means.{Means}
+use Rattle.gb_prog.specs.Means.{Means}
 use Rattle.gb_full.specs.Loss.{may_lose}
 use Rattle.gb_full.proofs.Full.{full_term}
 use Rattle.gb_full.proofs.Operators.{AreFullOperators}

@@ -26,7 +26,7 @@ use Rattle.gb_mods.specs.Called.{row_calls}
 use Rattle.gb_mods.specs.Meant.{in_front, meant_by}
 use Rattle.gb_mods.specs.declared.meant.Meant.{Meant}
 use Rattle.gb_mods.specs.declared.meant.Meant.TheVariants.{Unknown, Declared, Any}
-use Rattle.gb_adversaries.proofs.Meanings.{declared_there}
+use Rattle.gb_prog.proofs.Meanings.{declared_there}
 use Rattle.gb_full.specs.Loss.{may_lose}
 use Rattle.gb_laws.specs.Typing.{Binder, IsRead, IsHead, types_of}
 use Rattle.gb_laws.specs.Typing.Binder.{value, index}

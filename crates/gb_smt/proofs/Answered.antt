@@ -17,7 +17,7 @@ use Rattle.gb_smt.specs.declared.assign.Found.TheVariants.{True, False, Unknown,
 use Rattle.gb_smt.specs.declared.apply.Tried.{Tried}
 use Rattle.gb_smt.specs.declared.apply.Tried.TheVariants.{Closed, Refuted, Undecided, OutOfRange}
 use Rattle.gb_smt.specs.declared.apply.Open.{Open}
-use Rattle.gb_num.specs.declared.whole.Overflow as number
+use Rattle.gb_dist.specs.declared.whole.Overflow as number
 use Rattle.gb_smt.specs.Equations.{used_up}
 use Rattle.gb_smt.specs.Claims.{claims_of}
 use Rattle.gb_closing.specs.Counted.{is_tried}

@@ -3,8 +3,8 @@ use Rattle.std.proofs.Common.{◌≡◌, ℕ, zero, suc, ◌+◌, ◌-◌, ◌<�
 use Rattle.gb_core.specs.declared.value.Value.{Value}
 use Rattle.gb_core.specs.declared.value.Card.{Card}
 use Rattle.gb_core.specs.declared.value.Card.TheVariants.{Exact, Above}
-use Rattle.gb_types.specs.Types.{card_of}
-use Rattle.gb_num.specs.declared.whole.Overflow as number
+use Rattle.gb_core.specs.Types.{card_of}
+use Rattle.gb_dist.specs.declared.whole.Overflow as number
 use Rattle.gb_eval.specs.Findings.{Comes}
 use Rattle.gb_eval.specs.Findings.Comes.{found, unknown, overflow}
 use Rattle.gb_goal.specs.Scope.{Declarations}

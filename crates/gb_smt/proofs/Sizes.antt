@@ -8,7 +8,7 @@ use Rattle.gb_core.specs.declared.ty.Ty.{Ty}
 use Rattle.gb_core.specs.declared.ty.Ty.TheVariants.{Mod, rolls-Mod}
 use Rattle.gb_core.specs.declared.ty.Ty.TheOpen as t
 use Rattle.gb_core.specs.declared.ty.Ty.TheFolds.{fold-roll-Ty}
-use Rattle.gb_types.specs.Types.{finite_step, is_finite}
+use Rattle.gb_core.specs.Types.{finite_step, is_finite}
 use Rattle.gb_terms.specs.declared.op.Side.TheVariants.{Own, Left, Right, Memory, Bound}
 use Rattle.gb_terms.specs.declared.op.Read.TheVariants.{Logical, Program}
 use Rattle.gb_terms.specs.declared.term.Term.{Term, Term', Row_of-Term, end_of-Term, more_of-Term, end_of-Head, more_of-Head}

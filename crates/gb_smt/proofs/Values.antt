@@ -3,11 +3,11 @@ use Rattle.std.proofs.Common.{◌≡◌, ℕ, ◌+◌, ◌*◌, ◌/◌, ◌%◌
 use Rattle.std.proofs.lemmas.Bool.{and_parts}
 use Rattle.std.proofs.lemmas.List.{at_drop_more, drop_all}
 use Rattle.gb_core.specs.declared.value.Value.{Value}
-use Rattle.gb_types.specs.Numbering.{tuple_at, parts_in, parts_of}
-use Rattle.gb_types.specs.Types.{IsPlaceBelow, is_finite, numbering, size_of, card_of, value_at}
-use Rattle.gb_types.proofs.Equations.{numbering-Tuple}
-use Rattle.gb_types.proofs.Lawful.{out-Many}
-use Rattle.gb_types.proofs.Steps.{Digit, digit, factors}
+use Rattle.gb_core.specs.Numbering.{tuple_at, parts_in, parts_of}
+use Rattle.gb_core.specs.Types.{IsPlaceBelow, is_finite, numbering, size_of, card_of, value_at}
+use Rattle.gb_core.proofs.Equations.{numbering-Tuple}
+use Rattle.gb_core.proofs.Lawful.{out-Many}
+use Rattle.gb_core.proofs.Steps.{Digit, digit, factors}
 use Rattle.gb_eval.specs.declared.env.ReadValue.{ReadValue}
 use Rattle.gb_eval.specs.Findings.{Comes}
 use Rattle.gb_eval.specs.Findings.Comes.{found}

@@ -5,8 +5,8 @@ use Rattle.gb_core.specs.declared.ty.Ty.TheVariants.{Tuple}
 use Rattle.gb_core.specs.declared.value.Value.{Value}
 use Rattle.gb_core.specs.declared.value.Card.{Card}
 use Rattle.gb_core.specs.declared.value.Card.TheVariants.{Exact, Above}
-use Rattle.gb_types.specs.Numbering.{parts_of}
-use Rattle.gb_types.specs.Types.{card_of, value_at}
+use Rattle.gb_core.specs.Numbering.{parts_of}
+use Rattle.gb_core.specs.Types.{card_of, value_at}
 use Rattle.gb_terms.specs.declared.term.Term.{Term}
 use Rattle.gb_goal.specs.Scope.{Declarations}
 use Rattle.gb_mods.specs.Exclusions.{exclusions}

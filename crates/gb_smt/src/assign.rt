@@ -2,9 +2,9 @@
 
 ghost use Rattle.std.specs.Prelude.{◌≡◌, ◌-◌, ◌^◌, ◌<◌, length, map, min, IfOk, OnOk};
 ghost use Rattle.gb_core.specs.declared.ty.Ty.TheVariants.{Tuple};
-ghost use Rattle.gb_types.specs.Numbering.{tuple_at};
+ghost use Rattle.gb_core.specs.Numbering.{tuple_at};
 ghost use Rattle.gb_eval.specs.Findings.{Finds};
-ghost use Rattle.gb_types.specs.Types.{IsPlaceBelow, card_of, numbering, value_at};
+ghost use Rattle.gb_core.specs.Types.{IsPlaceBelow, card_of, numbering, value_at};
 ghost use Rattle.gb_eval.specs.Eval.{environment};
 ghost use Rattle.gb_labels.specs.Labels.{choice_at, choices, labelled_ty};
 ghost use Rattle.gb_labels.specs.Labelled.{labelled};
@@ -13,7 +13,10 @@ ghost use Rattle.gb_smt.specs.Assign.{assignments, assignment, environment_of, w
 
 use crate::claims::Claim;
 use gb_closing::linked::{Variable, Variables};
+use gb_core::nth::nth;
+use gb_core::size::size;
 use gb_core::value::{Card, Value, Values};
+use gb_dist::whole::Overflow;
 use gb_equality::sizes::{number_of_values, size_of_variables};
 use gb_eval::answer::Stop;
 use gb_eval::env::{Env, ReadValue, ReadValues};
@@ -24,10 +27,7 @@ use gb_labels::labelled::{labelled, labelled_all};
 use gb_labels::labels::{Label, choice_at, choices};
 use gb_labels::types::labelled_part;
 use gb_mods::exclusions::exclusions;
-use gb_num::Overflow;
 use gb_terms::term::Term;
-use gb_types::nth::nth;
-use gb_types::size::size;
 use gb_walk::clash::Excluded;
 use sqlite_items::Items;
 use std::alloc::{AllocError, Global};

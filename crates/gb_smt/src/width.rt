@@ -2,14 +2,15 @@
 
 ghost use Rattle.std.specs.Prelude.{◌≡◌, ◌^◌, true, map, min, IfOk};
 ghost use Rattle.std.specs.List.{flat_map};
-ghost use Rattle.gb_types.specs.Numbering.{tuples};
-ghost use Rattle.gb_types.specs.Types.{numbering};
+ghost use Rattle.gb_core.specs.Numbering.{tuples};
+ghost use Rattle.gb_core.specs.Types.{numbering};
 ghost use Rattle.gb_meaning.specs.Written.{type_of};
 ghost use Rattle.gb_smt.specs.Width.{bound_by, bound_in, bound_types, is_known_claim, assignments_of, width_of};
 
 use crate::claims::Claim;
 use gb_closing::counted::card_at;
 use gb_core::name::Name;
+use gb_core::size::{MANY, size};
 use gb_core::value::Card;
 use gb_equality::sizes::{
     are_finite, bound_size_of_memory, size_of_outcomes, size_of_variables, times,
@@ -18,7 +19,6 @@ use gb_eval::known::{are_known, is_known};
 use gb_eval::script::{Script, body_of, inside, script_of};
 use gb_goal::scope::Scope;
 use gb_terms::term::{Head, Term};
-use gb_types::size::{MANY, size};
 use std::alloc::{AllocError, Global};
 
 /// The product of the sizes of the types of the variables that are bound in the body of an operator of the script, up to `MANY`.

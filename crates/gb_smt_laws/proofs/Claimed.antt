@@ -10,10 +10,10 @@ use Rattle.gb_core.specs.declared.value.Value.{Value}
 use Rattle.gb_core.specs.declared.value.Value.TheVariants.{Many}
 use Rattle.gb_core.specs.declared.value.Card.{Card}
 use Rattle.gb_core.specs.declared.value.Card.TheVariants.{Exact, Above}
-use Rattle.gb_types.specs.Numbering.{is_many_in, parts_in, parts_of, is_tuple}
-use Rattle.gb_types.specs.Types.{numbering, finite_step, is_finite, all_true, size_of, card_of, place_of}
-use Rattle.gb_types.proofs.Lawful.{Lawful, out-Many}
-use Rattle.gb_types.proofs.Equations.{numbering-Tuple}
+use Rattle.gb_core.specs.Numbering.{is_many_in, parts_in, parts_of, is_tuple}
+use Rattle.gb_core.specs.Types.{numbering, finite_step, is_finite, all_true, size_of, card_of, place_of}
+use Rattle.gb_core.proofs.Lawful.{Lawful, out-Many}
+use Rattle.gb_core.proofs.Equations.{numbering-Tuple}
 use Rattle.gb_terms.specs.declared.term.Term.{Term}
 use Rattle.gb_meaning.specs.Setting.{Setting}
 use Rattle.gb_meaning.specs.Meanings.{value_in, truth}

@@ -20,8 +20,8 @@ use Rattle.gb_meaning.specs.Setting.Meaning.{finite, whole, fraction, weights}
 use Rattle.gb_meaning.specs.Meanings.{of_truth, truth, same}
 use Rattle.gb_meaning.specs.Operators.{Argument, alike, operated}
 use Rattle.gb_meaning.specs.Values.{Types, has}
-use Rattle.gb_types.specs.Numbering.{number_of}
-use Rattle.gb_types.proofs.Lawful.{Lawful-numbers}
+use Rattle.gb_core.specs.Numbering.{number_of}
+use Rattle.gb_core.proofs.Lawful.{Lawful-numbers}
 use Rattle.gb_meaning.proofs.Values.{value_eq-true}
 use Rattle.gb_meaning.specs.State.{State}
 use Rattle.gb_meaning.specs.Terms.{Speaks, part_of, at_head, val, denominator}

@@ -5,8 +5,8 @@ use Rattle.gb_core.specs.declared.ty.Ty.TheVariants as ty
 use Rattle.gb_core.specs.declared.ty.Ty.TheOpen as layer
 use Rattle.gb_core.specs.declared.ty.Ty.TheViews.{roll-out-Ty}
 use Rattle.gb_core.specs.declared.ty.Ty.TheFolds.{fold-roll-Ty, ind-Ty, map-Ty}
-use Rattle.gb_types.specs.Numbering.{Numbering, numbers, tuple_of, option_of, map_of}
-use Rattle.gb_types.specs.Types.{finite_step, is_finite, all_true}
+use Rattle.gb_core.specs.Numbering.{Numbering, numbers, tuple_of, option_of, map_of}
+use Rattle.gb_core.specs.Types.{finite_step, is_finite, all_true}
 use Rattle.gb_terms.specs.declared.module.Mexp.TheVariants.{Name as named}
 use Rattle.gb_meaning.specs.Names.{Name}
 use Rattle.gb_meaning.specs.Values.{Types, values, all_values_by, footprint_values}

@@ -9,7 +9,7 @@ use Rattle.gb_core.specs.declared.ty.Ty.{Ty}
 use Rattle.gb_core.specs.declared.ty.Ty.TheVariants as ty
 use Rattle.gb_core.specs.declared.value.Value.{Value}
 use Rattle.gb_core.specs.declared.value.Value.TheVariants.{Num}
-use Rattle.gb_types.specs.Numbering.{number_of}
+use Rattle.gb_core.specs.Numbering.{number_of}
 use Rattle.gb_dist.specs.WeightedList.{WeightedList, bit}
 use Rattle.gb_terms.specs.Make as make
 use Rattle.gb_terms.specs.declared.op.Op.{Op}
@@ -29,7 +29,7 @@ use Rattle.gb_meaning.specs.Written.{type_of}
 use Rattle.gb_meaning.proofs.Nodes.{each_is_node, val_node}
 use Rattle.gb_meaning.proofs.Values.{value_eq-true}
 use Rattle.gb_laws.specs.Meant.{IsOf}
-use Rattle.gb_types.proofs.Lawful.{Lawful-numbers}
+use Rattle.gb_core.proofs.Lawful.{Lawful-numbers}
 use Rattle.gb_laws.proofs.Meanings.{finite_is, finite_has}
 use Rattle.gb_laws.proofs.Nodes.{type_of_node}
 use Rattle.gb_equality.specs.Connectives.{is_bool, is_form, shown_whole, shown_by, shown_at, shown, AreDifferent}

@@ -3,7 +3,7 @@
 use gb_core::Shared;
 use gb_core::name::Name;
 use gb_core::place::Place;
-use gb_num::Frac;
+use gb_dist::frac::Frac;
 use gb_terms::module::ProcRef;
 use gb_terms::op::Rel;
 use gb_terms::term::{Form, RealTerm, Term, Terms};

@@ -32,7 +32,7 @@ use Rattle.gb_bodies.specs.Rows as bodies
 use Rattle.gb_ended.specs.Loops.{unproved_in}
 use Rattle.gb_loops.specs.While.{while_row}
 use Rattle.gb_equiv.specs.Rows as equiv
-use Rattle.gb_phoare.specs.Rows as chances
+use Rattle.gb_pr.specs.ChanceRows as chances
 use Rattle.gb_pr.specs.Rows as probabilities
 use Rattle.gb_call_both.specs.Rows as calls
 use Rattle.gb_adv.specs.Rows.{abstract_row}

@@ -145,7 +145,7 @@ fn apply(alloc: Global, step: &Step, goal: &Sequent, scope: &Scope) -> Result<Se
     match &step.rule {
         Rule::OnBodies(rule) => on_bodies(alloc, step, rule, goal, scope),
         Rule::Relational(rule) => on_both(alloc, step, rule, goal, scope),
-        Rule::Chance(_) => gb_phoare::apply::apply(alloc, step, goal, scope),
+        Rule::Chance(_) => gb_pr::apply_chance::apply(alloc, step, goal, scope),
         Rule::Probability(_) => gb_pr::apply::apply(alloc, step, goal, scope),
         Rule::Call(_) => gb_call_both::apply::apply(alloc, step, goal, scope),
         Rule::Transform(acts, rule) => on_programs(alloc, step, *acts, rule, goal, scope),

@@ -53,13 +53,13 @@ use Rattle.gb_full.specs.Loss.{Loss, nowhere, sampled, called, first_loss}
 use Rattle.gb_full.proofs.Full.{total_full}
 use Rattle.gb_prog.specs.OneBody.{OneBody}
 use Rattle.gb_full.specs.Lossless.{full}
-use Rattle.gb_adversaries.proofs.Meanings.{means_there}
+use Rattle.gb_prog.proofs.Meanings.{means_there}
 use Rattle.gb_prog.specs.Ends.{IsSoundLoopRule, IsSoundOnLoops}
 use Rattle.gb_prog.proofs.Couplings.{runs_gluing}
 use Rattle.gb_prog.proofs.Own.{Good, good_append}
 use Rattle.gb_forms.specs.declared.effects.Effects.{Effects}
 use Rattle.gb_mods.specs.Exclusions.{exclusions}
-use Rattle.gb_adversaries.proofs.KeptOff.{kept_off}
+use Rattle.gb_prog.proofs.KeptOff.{kept_off}
 use Rattle.gb_trans.specs.Effects.{effects_of, meets}
 use Rattle.gb_trans.specs.Places.{At, statement_at}
 use Rattle.gb_trans.specs.Swap.{unless_crossing}

@@ -26,7 +26,7 @@ use Rattle.gb_mods.specs.Written.{row_targets, statement_targets, targets, writt
 use Rattle.gb_mods.specs.declared.meant.Meant.{Meant}
 use Rattle.gb_mods.specs.declared.meant.Meant.TheVariants.{Unknown, Declared, Any}
 use Rattle.gb_mods.proofs.Closed.{AreFollowed, IsIn, all_closed}
-use Rattle.gb_adversaries.specs.Means.{Means}
+use Rattle.gb_prog.specs.Means.{Means}
 use Rattle.gb_typing.specs.Context.{Context}
 use Rattle.gb_typing.specs.Forms.{IsKeptOff}
 use Rattle.gb_typing.specs.Programs.{EachStatement, IsProcedure}

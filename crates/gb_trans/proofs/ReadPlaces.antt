@@ -34,12 +34,12 @@ use Rattle.gb_mods.specs.Read.{each_read, read_by, read_itself, row_read}
 use Rattle.gb_mods.specs.declared.meant.Meant.{Meant}
 use Rattle.gb_mods.specs.declared.meant.Meant.TheVariants.{Unknown, Declared, Any}
 use Rattle.gb_mods.proofs.Closed.{AreFollowed, IsIn}
-use Rattle.gb_adversaries.specs.AnyOf.{IfOneOf}
-use Rattle.gb_adversaries.specs.Carried.{EachCarried, EachCarriedBy}
-use Rattle.gb_adversaries.specs.Means.{IfDeclared, Means}
-use Rattle.gb_adversaries.proofs.Carried.{each_carried, each_procedure}
-use Rattle.gb_adversaries.proofs.Meanings.{if_declared}
-use Rattle.gb_adversaries.proofs.Reading.{reads_of_any}
+use Rattle.gb_prog.specs.AnyOf.{IfOneOf}
+use Rattle.gb_prog.specs.Carried.{EachCarried, EachCarriedBy}
+use Rattle.gb_prog.specs.Means.{IfDeclared, Means}
+use Rattle.gb_prog.proofs.Carried.{each_carried, each_procedure}
+use Rattle.gb_prog.proofs.Meanings.{if_declared}
+use Rattle.gb_prog.proofs.Reading.{reads_of_any}
 use Rattle.gb_typing.specs.Context.{Context, procedure}
 use Rattle.gb_typing.specs.Modules.{ProcedureType}
 use Rattle.gb_typing.specs.Programs.{AreArguments, AreStatements, EachStatement, IsCall, IsProcedure}

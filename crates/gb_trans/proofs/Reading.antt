@@ -15,7 +15,7 @@ use Rattle.gb_mods.specs.Called.{all_reached, calls}
 use Rattle.gb_mods.specs.Meant.{meant_by}
 use Rattle.gb_mods.specs.Read.{each_read, read_by}
 use Rattle.gb_mods.proofs.Closed.{AreFollowed, IsIn, all_closed}
-use Rattle.gb_adversaries.specs.Means.{Means}
+use Rattle.gb_prog.specs.Means.{Means}
 use Rattle.gb_typing.specs.Context.{Context}
 use Rattle.gb_typing.specs.Programs.{EachStatement, IsProcedure}
 use Rattle.gb_trans.proofs.Named.{EachNamed, named_append}

@@ -21,11 +21,11 @@ use Rattle.gb_typing.proofs.Lists.{typed_append, typed_drop, typed_take}
 use Rattle.gb_typing.proofs.Located.{typed_there}
 use Rattle.gb_prog.specs.OneBody.{OneBody}
 use Rattle.gb_mods.specs.Meant.{meant_by}
-use Rattle.gb_adversaries.specs.Means.{Means}
+use Rattle.gb_prog.specs.Means.{Means}
 use Rattle.gb_typing.specs.Forms.{IsKeptOff}
 use Rattle.gb_mods.specs.Exclusions.{exclusions}
-use Rattle.gb_adversaries.proofs.KeptOff.{kept_off}
-use Rattle.gb_adversaries.proofs.Meanings.{means_there}
+use Rattle.gb_prog.proofs.KeptOff.{kept_off}
+use Rattle.gb_prog.proofs.Meanings.{means_there}
 use Rattle.gb_prog.specs.Ends.{IsSoundLoopRule}
 use Rattle.gb_prog.specs.Loops.{RunAlike}
 use Rattle.gb_prog.proofs.Couplings.{alike_back, alike_between}

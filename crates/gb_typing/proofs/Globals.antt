@@ -10,8 +10,8 @@ use Rattle.gb_core.specs.declared.var.Var.{Var}
 use Rattle.gb_core.specs.declared.var.Var.TheVariants as var
 use Rattle.gb_core.specs.declared.value.Value.{Value}
 use Rattle.gb_core.specs.declared.value.Value.TheVariants.{Many}
-use Rattle.gb_types.specs.Numbering.{numbers, uncounted, is_tuple, is_many, parts_of}
-use Rattle.gb_types.proofs.Lawful.{Many-parts_of}
+use Rattle.gb_core.specs.Numbering.{numbers, uncounted, is_tuple, is_many, parts_of}
+use Rattle.gb_core.proofs.Lawful.{Many-parts_of}
 use Rattle.gb_terms.specs.declared.module.Mexp.TheVariants.{Name as named}
 use Rattle.gb_meaning.specs.Names.{Name}
 use Rattle.gb_meaning.specs.Values.{Global, Types, values_by, has, fit}

@@ -4,8 +4,8 @@ use Rattle.gb_core.specs.declared.ty.Ty.TheVariants as ty
 use Rattle.gb_core.specs.declared.ty.Ty.TheOpen as layer
 use Rattle.gb_core.specs.declared.ty.Ty.TheFolds.{fold-roll-Ty}
 use Rattle.gb_core.specs.declared.value.Value.TheVariants.{Num}
-use Rattle.gb_types.specs.Numbering.{Numbering}
-use Rattle.gb_types.specs.Types.{finite_step, is_finite, numbering_step, numbering}
+use Rattle.gb_core.specs.Numbering.{Numbering}
+use Rattle.gb_core.specs.Types.{finite_step, is_finite, numbering_step, numbering}
 use Rattle.gb_laws.specs.Typing.{IsLiteral}
 use Rattle.gb_laws.proofs.Meanings.{number_has}
 

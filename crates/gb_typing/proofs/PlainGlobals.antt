@@ -1,7 +1,7 @@
 -- Globals whose types variables may have: such types have the same values wherever abstract types have the same sizes.
 use Rattle.std.proofs.Common.{◌≡◌, Bool, true, false, if◌then◌else◌, List, [], ◌∷◌, filter, ◌∙◌}
 use Rattle.gb_core.specs.declared.ty.Ty.{Ty}
-use Rattle.gb_types.specs.Numbering.{numbers}
+use Rattle.gb_core.specs.Numbering.{numbers}
 use Rattle.gb_terms.specs.declared.module.Mexp.TheVariants.{Name as named}
 use Rattle.gb_meaning.specs.Values.{Global, World, Types, values_by, footprint_values}
 use Rattle.gb_meaning.specs.Typing.{IsPlain}

@@ -1,7 +1,7 @@
 -- Sequents that name nothing that is added are true alike in aligned scopes.
 use Rattle.std.proofs.Common.{◌≡◌, ℕ, true, List, [], ◌∷◌, ◌++◌, map, ◌↔◌, sym, subst}
 use Rattle.gb_core.specs.declared.value.Value.{Value}
-use Rattle.gb_types.specs.Numbering.{Numbering}
+use Rattle.gb_core.specs.Numbering.{Numbering}
 use Rattle.gb_terms.specs.declared.decl.TypedName.{TypedName}
 use Rattle.gb_terms.specs.declared.module.Bind.{Bind}
 use Rattle.gb_goal.specs.declared.sequent.Hyp.{Hyp}

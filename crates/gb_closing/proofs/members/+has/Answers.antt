@@ -1,7 +1,7 @@
 use Rattle.std.proofs.Common.{◌+◌, ◌&&◌, inl, inr, ap, map, drop, sym, ◌∙◌, arith}
-use Rattle.gb_types.specs.Numbering.{is_tuple}
-use Rattle.gb_types.specs.Types.{numbering, size_of}
-use Rattle.gb_types.proofs.Orders.{lawful}
+use Rattle.gb_core.specs.Numbering.{is_tuple}
+use Rattle.gb_core.specs.Types.{numbering, size_of}
+use Rattle.gb_core.proofs.Orders.{lawful}
 use Rattle.gb_closing.proofs.Parts.{map_sizes, no_further, none_has, none_of_map, one_entry, other_length, part_has, parts_end}
 use Rattle.gb_closing.proofs.members.+has.Goals as goal
 use Rattle.gb_closing.proofs.members.+has.Goals.{has_entries-then-size-eq0-via-then-size-eq0, has_entries-then-size-eq0-via-else-size-eq0+then-size-eq0-2}

@@ -1,7 +1,7 @@
 use Rattle.std.proofs.Common.{◌≡◌, ◌+◌, ◌*◌, ◌^◌, ◌<◌, max, true, length, map, drop}
 use Rattle.gb_core.specs.declared.ty.Ty.{size-Ty}
-use Rattle.gb_types.specs.Numbering.{are_entries, is_tuple, tuples}
-use Rattle.gb_types.specs.Types.{all_true, is_finite, numbering}
+use Rattle.gb_core.specs.Numbering.{are_entries, is_tuple, tuples}
+use Rattle.gb_core.specs.Types.{all_true, is_finite, numbering}
 use Rattle.gb_closing.proofs.members.+has.Given as goal
 
 abbrev pub decreases-has : goal.decreases-has

@@ -1,5 +1,5 @@
 use Rattle.std.proofs.Common.{◌≡◌, ◌++◌, drop}
-use Rattle.gb_num.specs.Operations.{first_overflow}
+use Rattle.gb_dist.specs.Operations.{first_overflow}
 use Rattle.gb_dist.specs.Lists.{paired}
 use Rattle.gb_dist.specs.Rows.{entries, pairing_steps}
 use Rattle.gb_dist.proofs.combine.paired.Given as goal

@@ -5,7 +5,7 @@ use Rattle.gb_dist.specs.Lists.{product}
 use Rattle.gb_dist.specs.Rows.{entries}
 use Rattle.gb_dist.proofs.Steps.{weight_within, finished}
 use Rattle.std.proofs.lemmas.Result.{err_from_is_err_and}
-use Rattle.gb_num.specs.Operations.{product_of}
+use Rattle.gb_dist.specs.Operations.{product_of}
 use Rattle.gb_dist.proofs.Pairs.{last_refused, pair_refused, pair_passed, pairs_done, product_step, total_product, positive_product}
 use Rattle.gb_dist.proofs.combine.product.Goals as goal
 

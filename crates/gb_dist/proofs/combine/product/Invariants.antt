@@ -1,5 +1,5 @@
 use Rattle.std.proofs.Common.{◌≡◌, ◌++◌, ◌∷◌, [], drop, pos}
-use Rattle.gb_num.specs.Operations.{product_of, first_overflow}
+use Rattle.gb_dist.specs.Operations.{product_of, first_overflow}
 use Rattle.gb_dist.specs.Lists.{product}
 use Rattle.gb_dist.specs.Rows.{entries, product_steps}
 use Rattle.gb_dist.proofs.combine.product.Given as goal

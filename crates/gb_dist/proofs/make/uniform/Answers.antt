@@ -1,5 +1,5 @@
 use Rattle.std.proofs.Common.{◌≡◌, arith}
-use Rattle.gb_types.specs.Types.{numbering}
+use Rattle.gb_core.specs.Types.{numbering}
 use Rattle.gb_dist.specs.Lists.{values_below}
 use Rattle.gb_dist.specs.Rows.{entries}
 use Rattle.gb_dist.proofs.Steps.{total_values, positive_values}

@@ -1,5 +1,5 @@
 use Rattle.std.proofs.Common.{◌≡◌}
-use Rattle.gb_types.specs.Types.{numbering}
+use Rattle.gb_core.specs.Types.{numbering}
 use Rattle.gb_dist.specs.Lists.{values_below}
 use Rattle.gb_dist.specs.Rows.{entries}
 use Rattle.gb_dist.proofs.make.uniform.Given as goal

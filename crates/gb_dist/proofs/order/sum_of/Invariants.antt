@@ -1,5 +1,5 @@
 use Rattle.std.proofs.Common.{◌≡◌, ◌+◌, ◌<◌, ◌^◌, drop}
-use Rattle.gb_num.specs.Operations.{first_overflow}
+use Rattle.gb_dist.specs.Operations.{first_overflow}
 use Rattle.gb_dist.specs.Rows.{adding_steps, entries, weight_of}
 use Rattle.gb_dist.proofs.order.sum_of.Given as goal
 

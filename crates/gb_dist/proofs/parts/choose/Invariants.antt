@@ -1,6 +1,6 @@
 use Rattle.std.proofs.Common.{◌≡◌, ◌++◌, ◌∷◌, [], drop, pos}
 use Rattle.gb_dist.specs.WeightedList.{scale}
-use Rattle.gb_num.specs.Operations.{product_of, first_overflow}
+use Rattle.gb_dist.specs.Operations.{product_of, first_overflow}
 use Rattle.gb_dist.specs.Rows.{entries, scaling_steps}
 use Rattle.gb_dist.proofs.parts.choose.Given as goal
 

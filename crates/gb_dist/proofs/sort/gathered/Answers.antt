@@ -3,7 +3,7 @@ use Rattle.std.specs.List.{All}
 use Rattle.std.specs.List.Sorted.{IsNonDecreasingBy}
 use Rattle.std.proofs.lemmas.List.Elements.{All-push}
 use Rattle.std.proofs.lemmas.List.Sorted.{IsNonDecreasingBy-from_sort_by_key}
-use Rattle.gb_types.specs.Types.{place_of}
+use Rattle.gb_core.specs.Types.{place_of}
 use Rattle.gb_dist.specs.declared.sort.Placed.{Placed}
 use Rattle.gb_dist.proofs.Gathering.{placed_row, positive_row, placed_step, same_at_places, sorted_facts, gathered_of, IsAt}
 use Rattle.gb_dist.proofs.sort.gathered.Goals as goal

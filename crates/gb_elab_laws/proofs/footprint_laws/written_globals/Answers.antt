@@ -1,5 +1,5 @@
 use Rattle.gb_laws.proofs.Leaves.{routine_leaves}
-use Rattle.gb_adversaries.proofs.Meanings.{means_there}
+use Rattle.gb_prog.proofs.Meanings.{means_there}
 use Rattle.gb_call.proofs.Unwritten.{procedure_left}
 use Rattle.gb_elab_laws.proofs.footprint_laws.written_globals.Goals as goal
 

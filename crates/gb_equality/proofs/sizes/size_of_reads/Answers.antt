@@ -1,5 +1,5 @@
 use Rattle.std.proofs.Common.{◌^◌, ap, ◌∙◌, min}
-use Rattle.gb_types.specs.Types.{size_of}
+use Rattle.gb_core.specs.Types.{size_of}
 use Rattle.gb_equality.proofs.Products.{product_more}
 use Rattle.gb_equality.proofs.sizes.size_of_reads.Goals as goal
 

@@ -8,8 +8,8 @@ use Rattle.gb_eval.specs.Findings.{◌>>=◌, argument_of, collected, fraction_i
 use Rattle.gb_eval.specs.Findings.Finding.{value}
 use Rattle.gb_eval.specs.Findings.Comes.{found}
 use Rattle.gb_eval.specs.declared.env.Bound.TheVariants as to
-use Rattle.gb_types.specs.Numbering.{parts_of}
-use Rattle.gb_types.specs.Types.{card_of, value_at}
+use Rattle.gb_core.specs.Numbering.{parts_of}
+use Rattle.gb_core.specs.Types.{card_of, value_at}
 use Rattle.gb_labels.specs.Held.{with_values}
 use Rattle.gb_dist.specs.Places.{outcomes}
 use Rattle.gb_dist.specs.Rows.{entries}

@@ -1,7 +1,7 @@
 use Rattle.std.proofs.Common.{◌≡◌, ◌+◌, ◌*◌, ◌<◌, ◌≤◌, ◌^◌, not, [], ◌∷◌, map, drop, reverse}
 use Rattle.gb_core.specs.declared.value.Value.TheVariants.{Num}
 use Rattle.gb_core.specs.declared.value.Card.TheVariants.{Exact}
-use Rattle.gb_types.specs.Types.{card_of, value_at}
+use Rattle.gb_core.specs.Types.{card_of, value_at}
 use Rattle.gb_dist.specs.Places.{outcomes}
 use Rattle.gb_dist.specs.Rows.{entries}
 use Rattle.gb_eval.specs.declared.env.Bound.TheVariants as to

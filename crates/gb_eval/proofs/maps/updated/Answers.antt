@@ -1,5 +1,5 @@
 use Rattle.std.proofs.Common.{sym, ap, ◌∙◌}
-use Rattle.gb_types.specs.Numbering.{parts_of}
+use Rattle.gb_core.specs.Numbering.{parts_of}
 use Rattle.gb_eval.specs.Findings.{◌>>=◌, shown, value_in}
 use Rattle.gb_eval.specs.Operators.{with_entry}
 use Rattle.gb_eval.proofs.Stops.{gives_as, leads_on}

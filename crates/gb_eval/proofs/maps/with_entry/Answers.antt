@@ -1,6 +1,6 @@
 use Rattle.std.proofs.Common.{◌&&◌, sym, ap, ◌∙◌}
 use Rattle.gb_core.specs.declared.value.Value.TheVariants.{Many}
-use Rattle.gb_types.specs.Types.{numbering}
+use Rattle.gb_core.specs.Types.{numbering}
 use Rattle.gb_labels.specs.Keys.{are_keys, is_key}
 use Rattle.gb_meaning.specs.Operators.{entry_set}
 use Rattle.gb_eval.specs.Findings.Finding.{value}

@@ -1,8 +1,8 @@
 use Rattle.std.proofs.Common.{ap, sym, ◌∙◌, arith}
 use Rattle.std.specs.Int.{w128}
 use Rattle.std.proofs.lemmas.Int.{to_z_pos}
-use Rattle.gb_num.specs.Fractions.{of_whole, over, reduced}
-use Rattle.gb_num.specs.Operations.{over_steps}
+use Rattle.gb_dist.specs.Fractions.{of_whole, over, reduced}
+use Rattle.gb_dist.specs.Operations.{over_steps}
 use Rattle.gb_eval.specs.Findings.{after, shown}
 use Rattle.gb_eval.specs.Findings.Finding.{fraction}
 use Rattle.gb_eval.proofs.Stops.{chance_by, gives_as}

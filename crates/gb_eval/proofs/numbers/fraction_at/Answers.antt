@@ -1,8 +1,8 @@
 use Rattle.std.proofs.Common.{FitsSigned, if◌then◌else◌, ap, sym, ◌∙◌, rules}
 use Rattle.std.specs.Int.{w128}
 use Rattle.std.proofs.lemmas.Int.{to_z-of_z}
-use Rattle.gb_num.specs.Fractions.{plus, minus, times, over, reduced}
-use Rattle.gb_num.specs.Operations.{plus_steps, minus_steps, times_steps, over_steps}
+use Rattle.gb_dist.specs.Fractions.{plus, minus, times, over, reduced}
+use Rattle.gb_dist.specs.Operations.{plus_steps, minus_steps, times_steps, over_steps}
 use Rattle.gb_eval.specs.Findings.{after, shown}
 use Rattle.gb_eval.specs.Findings.Finding.{fraction}
 use Rattle.gb_eval.specs.Findings.Comes.{unknown}

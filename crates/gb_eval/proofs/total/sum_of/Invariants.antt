@@ -1,6 +1,6 @@
 use Rattle.std.proofs.Common.{◌≡◌, ◌+◌, ◌<◌, ◌^◌, drop}
 use Rattle.gb_dist.specs.WeightedList.{total}
-use Rattle.gb_num.specs.Operations.{first_overflow}
+use Rattle.gb_dist.specs.Operations.{first_overflow}
 use Rattle.gb_dist.specs.Rows.{adding_steps}
 use Rattle.gb_meaning.specs.Distributions.{stated}
 use Rattle.gb_eval.proofs.total.sum_of.Given as goal

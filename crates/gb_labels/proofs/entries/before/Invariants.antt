@@ -1,6 +1,6 @@
 use Rattle.std.proofs.Common.{◌≡◌, ◌-◌, ◌≤◌, ◌++◌, take, drop, length}
 use Rattle.gb_core.specs.declared.value.Value.{Value}
-use Rattle.gb_types.specs.Types.{numbering, place_of}
+use Rattle.gb_core.specs.Types.{numbering, place_of}
 use Rattle.gb_meaning.specs.Operators.{entry_set}
 use Rattle.gb_labels.proofs.entries.before.Given as goal
 

@@ -1,6 +1,6 @@
 use Rattle.std.proofs.Common.{◌+◌, ◌^◌, min, length, take, ap, ◌∙◌, arith}
 use Rattle.std.proofs.lemmas.List.{take_more_set, length-set}
-use Rattle.gb_types.specs.Types.{size_of}
+use Rattle.gb_core.specs.Types.{size_of}
 use Rattle.gb_smt.proofs.Values.{step}
 use Rattle.gb_smt.proofs.assign.assign.Goals as goal
 

@@ -1,6 +1,6 @@
 use Rattle.std.proofs.Common.{◌≡◌, length}
 use Rattle.gb_core.specs.declared.value.Card.TheVariants.{Exact}
-use Rattle.gb_types.specs.Types.{card_of}
+use Rattle.gb_core.specs.Types.{card_of}
 use Rattle.gb_smt.specs.declared.assign.Found.TheVariants.{True}
 use Rattle.gb_smt.specs.Assign.{assignments, found_before}
 use Rattle.gb_smt.proofs.assign.try_all.Given as goal

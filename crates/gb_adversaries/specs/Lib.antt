@@ -1,9 +1,0 @@
-pub mod Coupled
-pub mod Until
-pub mod KeptProperty
-pub mod Judged
-pub mod Kept
-pub mod AnyOf
-pub mod BothAnyOf
-pub mod Carried
-pub mod Means

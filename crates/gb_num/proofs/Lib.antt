@@ -1,3 +1,0 @@
-pub mod Divisors
-pub mod Lowest
-pub mod Sizes

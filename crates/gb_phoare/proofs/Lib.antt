@@ -1,4 +1,0 @@
-pub mod HoareIsSound
-pub mod RndIsSound
-pub mod RndSteps
-pub mod RulesAreSound

@@ -1,4 +1,0 @@
-use Rattle.gb_phoare.proofs.apply.apply.Goals as goal
-
-pub returns : goal.returns
-returns c = c.placed.ensures _ c.answer-made.ensures

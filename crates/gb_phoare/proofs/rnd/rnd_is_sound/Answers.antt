@@ -1,5 +1,0 @@
-use Rattle.gb_phoare.proofs.RndIsSound.{sound}
-use Rattle.gb_phoare.proofs.rnd.rnd_is_sound.Goals as goal
-
-pub returns : goal.returns
-returns x ds scoped q t = sound ds scoped q t

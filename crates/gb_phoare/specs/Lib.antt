@@ -1,3 +1,0 @@
-pub mod Hoare
-pub mod Rnd
-pub mod Rows

@@ -1,7 +1,0 @@
-use Rattle.std.proofs.Common.{◌≡◌, ◌^◌, min, map, take}
-use Rattle.gb_types.specs.Numbering.{tuples}
-use Rattle.gb_types.specs.Types.{numbering}
-use Rattle.gb_types.proofs.size.+size.Given as goal
-
-abbrev pub invariant-size_of_tuple-loop-part : goal.invariant-size_of_tuple-loop-part
-invariant-size_of_tuple-loop-part l = l.all ≡ min (tuples (map numbering (take l.part-index l.parts))) (2 ^ 63)

@@ -1,6 +1,0 @@
-use Rattle.std.proofs.Common.{◌∙◌, arith}
-use Rattle.gb_types.proofs.Capped.{power_all}
-use Rattle.gb_types.proofs.size.power.Goals as goal
-
-pub returns : goal.returns
-returns c = c.loop-turn.invariant ∙ power_all c.args.base c.args.exponent c.loop-turn.turn (omega arith)

@@ -1,5 +1,0 @@
-use Rattle.std.proofs.Common.{◌≡◌, ◌^◌, min}
-use Rattle.gb_types.proofs.size.power.Given as goal
-
-abbrev pub invariant-loop-turn : goal.invariant-loop-turn
-invariant-loop-turn l = l.all ≡ min (l.base ^ l.turn) (2 ^ 63)
