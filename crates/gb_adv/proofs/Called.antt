@@ -37,7 +37,7 @@ use Rattle.gb_typing.specs.Typing.{IsThere}
 use Rattle.gb_typing.proofs.DeclaredProcedures.{known_is}
 use Rattle.gb_typing.proofs.Declaring.{in_goal}
 use Rattle.gb_prog.specs.Writes.{DifferIn}
-use Rattle.gb_prog.proofs.Judged.{IsFramed, framed, read_result}
+use Rattle.gb_prog.proofs.OracleJudged.{IsFramed, framed, read_result}
 use Rattle.gb_call.specs.LastCall.{LastCall, last_call}
 use Rattle.gb_call.proofs.Callees.{IsResult, every_both, every_differs}
 use Rattle.gb_call.proofs.LastCalls.{IsCalled, called_typed}

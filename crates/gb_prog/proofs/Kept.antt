@@ -25,7 +25,7 @@ use Rattle.gb_prog.specs.BothAnyOf.{AreAnswers, AreBothAnyOf, EachPair, IsPairIn
 use Rattle.gb_prog.specs.Coupled.{values_of, IsKept, Alike, AnswerAlike}
 use Rattle.gb_prog.specs.OracleJudged.{IsFor, AreJudgedAlike, AreJudgedUntil}
 use Rattle.gb_prog.specs.KeptProperty.{IsApartFrom, Keeps}
-use Rattle.gb_prog.proofs.Judged.{judged_coupled, judged_kept, judged_until}
+use Rattle.gb_prog.proofs.OracleJudged.{judged_coupled, judged_kept, judged_until}
 use Rattle.gb_prog.proofs.KeptRuns.{routine_keeps}
 use Rattle.gb_prog.proofs.Runs.{routine_coupled}
 use Rattle.gb_prog.specs.Kept.{IsThere, AreKeeping, IsKeeping, AreKeepingUntil}

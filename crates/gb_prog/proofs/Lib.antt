@@ -8,7 +8,7 @@ pub mod KeptRuns
 pub mod Whole
 pub mod UntilPairs
 pub mod UntilRuns
-pub mod Judged
+pub mod OracleJudged
 pub mod Kept
 pub mod Carried
 pub mod Oracles

@@ -9,7 +9,7 @@ use Rattle.gb_meaning.specs.Setting.{Setting}
 use Rattle.gb_meaning.specs.Values.{Global}
 use Rattle.gb_typing.specs.Fits.{IsOfType}
 use Rattle.gb_prog.specs.Coupled.{Leaves}
-use Rattle.gb_prog.specs.OracleJudged.{HasOwnNames, AreJudgedAlike, IsJudgedToKeep, IsFor, AreJudgedUntil}
+use Rattle.gb_prog.specs.OracleJudged.{HasOwnNames, AreJudgedAlike, IsJudgedToKeep, AreJudgedUntil}
 
 -- A reference to a procedure that the setting has, of the type that is known of it.
 pub record IsThere (ds : Declarations) (g : Setting) (o : ProcRef) : Type 0 where

@@ -1,4 +1,4 @@
-use Rattle.gb_prog.proofs.Judged.{judged_coupled, judged_kept, judged_until}
+use Rattle.gb_prog.proofs.OracleJudged.{judged_coupled, judged_kept, judged_until}
 use Rattle.gb_prog.proofs.judged_laws.judged_answers.Goals as goal
 
 pub returns : goal.returns
