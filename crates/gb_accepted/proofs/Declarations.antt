@@ -47,32 +47,36 @@ use Rattle.gb_accepted.proofs.Given.{nothing_given, given_outside}
 use Rattle.gb_accepted.proofs.Grounds.{Grounds, IsTypedGoalOf, around, seen}
 use Rattle.gb_typing.specs.Naming.{NoName}
 use Rattle.gb_elab_laws.specs.Speaking.{IsFirmScope, ScopeSpeaks}
+use Rattle.gb_facts.specs.Unblank.{AreUnblank}
+use Rattle.gb_print.specs.Blank.{IsUnblank, begins_blank}
+use Rattle.gb_script.specs.Each.{Each}
 use Rattle.gb_accepted.proofs.Claims.{claim_proved}
 use Rattle.gb_accepted.proofs.Good.{IsGoodClaim, IsGoodIfOpen, IsGoodTermination, IsGood, StatesProcedures}
-use Rattle.gb_accepted.proofs.Later.{each_later, firm_together, names_stay, proved_later}
+use Rattle.gb_accepted.proofs.Later.{each_later, firm_together, names_stay, proved_later, unblank_together}
 use Rattle.gb_accepted.proofs.LoopProofs.{named, IsGoodLoops, loops_begin}
 
 -- a session in which more is declared, none of which is a lemma or an abstract module
 with_more : Grounds → (s : Session) (added : Declarations) → s.proof ≡ None → IsGood s → IsTypedScope (declared (s.scope ++ added)) → ClaimNothing added → IsFirmScope added → ScopeSpeaks NoName (declared added) →
-    IsGood (with_entries s added)
-with_more o s added none g typed others firm speaks = record {
+    AreUnblank added → IsGood (with_entries s added)
+with_more o s added none g typed others firm speaks unblank = record {
   typed = typed;
   firm = firm_together s.scope added g.firm firm;
   sound = gained_others s.scope added others g.sound;
   lemmas = record { names = names_stay s.scope added others ∙ g.lemmas.names; proved = proved_later s.scope added others g.lemmas.proved };
   speaks = (o.models.parts s.scope added).1 (g.speaks, speaks);
   statements = each_later s.scope added others StatesProcedures g.statements;
+  unblank = unblank_together s.scope added g.unblank unblank;
   proof = subst (IsGoodIfOpen _) (sym none) tt;
 }
 
-pub brings_keeps : Grounds → (s : Session) (t : Node) (place : Place) (next : Session) → IsGood s → brings s t place ≡ given next → IsGood next
-brings_keeps o s t place next g e =
+pub brings_keeps : Grounds → (s : Session) (t : Node) (place : Place) (next : Session) → IsGood s → Each IsUnblank t → brings s t place ≡ given next → IsGood next
+brings_keeps o s t place next g u e =
     let a = given_bind (outside s.proof place) _ next e in
     let b = given_bind (entries_given s.scope t) _ next a.2 in
     let c = given_bind (within (declaration_limit (declarations_in s.scope)) place) _ next b.2 in
     subst IsGood (given_is _ _ c.2)
     (with_more o s b.0 (given_outside s.proof place a.0 a.1) g (o.typing.entries_added s.scope g.typed t b.0 b.1) (o.typing.others s.scope t b.0 b.1) (o.typing.entries_firm s.scope g.typed t b.0 b.1)
-    (o.typing.entries_speak s.scope g.typed t b.0 b.1))
+    (o.typing.entries_speak s.scope g.typed t b.0 b.1) (o.names.entries s.scope t b.0 u b.1))
 
 pub requires_keeps : (s : Session) (names : List Node) (place : Place) (next : Session) → IsGood s → requires_files s names place ≡ given next → IsGood next
 requires_keeps s names place next g e =
@@ -83,13 +87,14 @@ requires_keeps s names place next g e =
 pub assumes_nothing : (s : Session) (place : Place) (next : Session) → assumes s place ≡ given next → ⊥
 assumes_nothing s place next e = let a = given_bind (outside s.proof place) _ next e in nothing_given _ _ next a.2
 
-pub declares_keeps : Grounds → (s : Session) (t : Node) (place : Place) (next : Session) → IsGood s → declares s t place ≡ given next → IsGood next
-declares_keeps o s t place next g e =
+pub declares_keeps : Grounds → (s : Session) (t : Node) (place : Place) (next : Session) → IsGood s → Each IsUnblank t → declares s t place ≡ given next → IsGood next
+declares_keeps o s t place next g u e =
     let a = given_bind (outside s.proof place) _ next e in
     let b = given_bind (module_given s.scope t) _ next a.2 in
     let c = given_bind (within (declaration_limit (declarations_in s.scope)) place) _ next b.2 in
     subst IsGood (given_is _ _ c.2)
-    (with_more o s ((b.0.name, entry.Module b.0) ∷ []) (given_outside s.proof place a.0 a.1) g (o.typing.module_added s.scope g.typed t b.0 b.1) (refl, tt) (tt, tt) (o.typing.module_speaks s.scope g.typed t b.0 b.1, tt))
+    (with_more o s ((b.0.name, entry.Module b.0) ∷ []) (given_outside s.proof place a.0 a.1) g (o.typing.module_added s.scope g.typed t b.0 b.1) (refl, tt) (tt, tt) (o.typing.module_speaks s.scope g.typed t b.0 b.1, tt)
+    (o.names.modules s.scope t b.0 u b.1, tt))
 
 -- a statement about procedures has no body
 statement_ends : Grounds → (ds : Declarations) (q : Sequent) → IsTypedGoalOf ds q → judges_bodies (out-Term q.conclusion).head ≡ false → SequentEnds (declared ds) q
@@ -103,9 +108,9 @@ statement_ends o ds q t bodies = step (has_module q.conclusion) refl
         let f = formula_form (around ds q t) q.conclusion (conclusion_formula (around ds q t) q.conclusion t.conclusion bodies) k in
         o.loops.forms (declared ds) q (around ds q t) f.typed
 
-pub opens_keeps : Grounds → (s : Session) (t : Node) (name : List ℕ) (place : Place) (next : Session) → IsGood s → lemma_name t ≡ name →
+pub opens_keeps : Grounds → (s : Session) (t : Node) (name : List ℕ) (place : Place) (next : Session) → IsGood s → Each IsUnblank t → lemma_name t ≡ name →
     opens s t name place ≡ given next → IsGood next
-opens_keeps o s t name place next g same e =
+opens_keeps o s t name place next g u same e =
     let a = given_bind (outside s.proof place) _ next e in
     let b = given_bind (statement_given s.scope t) _ next a.2 in
     let c = given_bind (within (declaration_limit (declarations_in s.scope)) place) _ next b.2 in
@@ -120,7 +125,10 @@ opens_keeps o s t name place next g same e =
       lemmas = record { names = g.lemmas.names; proved = g.lemmas.proved };
       speaks = g.speaks;
       statements = g.statements;
+      unblank = g.unblank;
       proof = record {
+        unblank = subst (λ n. begins_blank n ≡ false) same (o.names.lemmas t u);
+        binders = o.names.statements s.scope t q u b.1;
         free = subst (λ n. is_declared (declared s.scope) n ≡ false) same (o.typing.free s.scope t q b.1);
         statement = o.typing.statement s.scope g.typed t q b.1;
         procedures = procedures;
@@ -187,6 +195,7 @@ opens_loops_keeps o s t place next g e =
       lemmas = record { names = g.lemmas.names; proved = g.lemmas.proved };
       speaks = g.speaks;
       statements = g.statements;
+      unblank = g.unblank;
       proof = begins;
     })
 
@@ -199,6 +208,7 @@ begun_keeps s p place next g h e =
       lemmas = record { names = g.lemmas.names; proved = g.lemmas.proved };
       speaks = g.speaks;
       statements = g.statements;
+      unblank = g.unblank;
       proof = h;
     })
 

@@ -64,11 +64,20 @@ use Rattle.gb_inline.specs.Rows as transformation_rows
 use Rattle.gb_sim.specs.Sim as of_same
 use Rattle.gb_amb.specs.Steps.{IsAnswer, IsTypedStep, LeadTo}
 use Rattle.gb_linear.specs.Closing.{linear_answer}
-use Rattle.gb_amb.specs.Lemmas.{IsKnown, LemmasHold}
+use Rattle.gb_amb.specs.Lemmas.{IsKnown}
 use Rattle.gb_amb.specs.Uses as uses
 use Rattle.gb_rewrite.specs.Rewriting.{IsUsable, rewrite_answer}
+use Rattle.gb_given.specs.Instance.{AreModulesOf}
+use Rattle.gb_facts.specs.Facts.{IsFact}
 use Rattle.gb_elab_laws.specs.Procedures.{AreStated, IsOfProcedures}
+use Rattle.gb_facts.specs.Unblank.{AreUnblank}
+use Rattle.gb_lex.specs.Lex.{tokens_of}
+use Rattle.gb_limits.specs.Lexeme.{text_at}
+use Rattle.gb_print.specs.Blank.{IsUnblank, begins_blank}
+use Rattle.gb_read_script.specs.Reading.{SpellsTree}
+use Rattle.gb_script.specs.Each.{Each}
 use Rattle.gb_elab_laws.specs.Speaking.{DeclarationSpeaks, GoalSpeaks, IsFirmScope, IsWithoutModules, ScopeSpeaks}
+use Rattle.gb_instances.specs.Instance.{GivenModule, instance_of}
 use Rattle.gb_smt.specs.Leaves.{leaves_of}
 use Rattle.gb_smt.specs.Apply.{IsClosed}
 use Rattle.gb_elab_prog.specs.Entries.{entries_given}
@@ -131,6 +140,14 @@ pub record OfTyping : Type 0 where
   pub probabilities_typed : (ds : scope.Declarations) → IsTyped ds → (q : Sequent) (t : IsTypedGoalOf ds q) (n : Node) (s : Step) → step_given ds q n ≡ given s →
       (ls rs : List TypedName) → IsGoalOver (around ds q t) ls rs (goal_of q.conclusion) → probability_rows.IsTypedRule (around ds q t) s.rule ls rs (goal_of q.conclusion)
 
+-- The names that commands declare begin with no blank.
+pub record OfNames : Type 0 where
+  pub texts : (part : ℕ) (bytes : List ℕ) (at : Place) (x : Node) → SpellsTree part (text_at bytes at (tokens_of bytes)) x → Each IsUnblank x
+  pub entries : (ds : scope.Declarations) (t : Node) (added : scope.Declarations) → Each IsUnblank t → entries_given ds t ≡ given added → AreUnblank added
+  pub modules : (ds : scope.Declarations) (t : Node) (m : Module) → Each IsUnblank t → module_given ds t ≡ given m → begins_blank m.name ≡ false
+  pub lemmas : (t : Node) → Each IsUnblank t → begins_blank (lemma_name t) ≡ false
+  pub statements : (ds : scope.Declarations) (t : Node) (q : Sequent) → Each IsUnblank t → statement_given ds t ≡ given q → AreUnblank (binder_entries q.modules)
+
 -- Rules are sound.
 pub record OfRules : Type 0 where
   pub goal : (c : Context) (f : Term) → IsConclusion c f → has_module f ≡ false → IsTypedGoal c (goal_of f) × (type_of f ≡ ty.Bool)
@@ -165,13 +182,13 @@ pub record OfRules : Type 0 where
       IsSoundIn (declared ds) (around ds q t) (of_same.sim_row ds) G
   pub on_conclusions : (ds : Declarations) → IsTypedScope ds → (q : Sequent) (t : IsTypedSequent (context_of ds) q) → (r : AmbientRule) →
       IsTypedStep (of_sequent (context_of ds) q t.frames) q.conclusion r → (place : Place) (qs : List Sequent) → IsAnswer r place q (given qs) → LeadTo ds q qs
-  pub on_uses : (ds : Declarations) → IsTypedScope ds → LemmasHold ds → (q : Sequent) (t : IsTypedSequent (context_of ds) q) → (r : UseRule) →
+  pub on_uses : (ds : Declarations) → IsTypedScope ds → (q : Sequent) (t : IsTypedSequent (context_of ds) q) → (r : UseRule) →
       uses.IsTypedStep ds q (of_sequent (context_of ds) q t.frames) r → (place : Place) (qs : List Sequent) → uses.IsAnswer r place q (given qs) → LeadTo ds q qs
   pub on_equals : (ds : scope.Declarations) → IsTyped ds → (q : Sequent) (t : IsTypedGoalOf ds q) → (r : RewriteRule) →
       IsUsable (declared ds) q (around ds q t) r → (place : Place) (qs : List Sequent) → given qs ≡ rewrite_answer ds r place q → LeadTo (declared ds) q qs
   pub smt : (ds : scope.Declarations) → IsTyped ds → (q : Sequent) (t : IsTypedGoalOf ds q) → (known : List Term) → AllByRecursion (IsForm (around ds q t)) known →
       All (IsClosed ds) (leaves_of known q) → AllByRecursion (λ f. Holds (declared ds) (record q { conclusion = f })) known → Holds (declared ds) q
-  pub instances : (ds : Declarations) → IsTypedScope ds → LemmasHold ds → (q : Sequent) (t : IsTypedSequent (context_of ds) q) → (f : Term) →
+  pub instances : (ds : Declarations) → IsTypedScope ds → (q : Sequent) (t : IsTypedSequent (context_of ds) q) → (f : Term) →
       IsForm (of_sequent (context_of ds) q t.frames) f → IsKnown ds q (of_sequent (context_of ds) q t.frames) f → Holds ds (record q { conclusion = f })
   pub linear : (ds : Declarations) → IsTypedScope ds → (q : Sequent) → IsTypedSequent (context_of ds) q → (ms : List Multiple) (place : Place) (qs : List Sequent) →
       linear_answer ms place q ≡ given qs → AllByRecursion (IsTypedSequent (context_of ds)) qs × (AllByRecursion (Holds ds) qs → Holds ds q)
@@ -231,11 +248,14 @@ pub record OfModels : Type 0 where
   pub stay_typed : (ds es : scope.Declarations) → IsTyped (ds ++ es) → (q : Sequent) → IsTypedGoalOf ds q → IsWithoutModules q → IsTypedGoalOf (ds ++ es) q
   pub stay_seen : (ds : scope.Declarations) (bs : List Bind) → IsTyped (seen ds bs) → IsFirmScope ds → (q : Sequent) → IsTypedGoalOf ds q → IsWithoutModules q →
       ScopeSpeaks NoName (declared ds) → GoalSpeaks NoName q → Holds (declared ds) q → Holds (declared (seen ds bs)) q
+  pub instances : (ds es : scope.Declarations) → IsTyped (ds ++ es) → IsFirmScope ds → ScopeSpeaks NoName (declared (ds ++ es)) → AreUnblank (ds ++ es) → (q : Sequent) → IsTypedGoalOf ds q → IsOfProcedures q → Holds (declared ds) q → (ks : List GivenModule) →
+      AreModulesOf (ds ++ es) ks → (p : Place) (r : Sequent) → instance_of (ds ++ es) q ks p ≡ given r → (r.modules ≡ []) × IsFact (ds ++ es) r
   pub without_declared : (ds : scope.Declarations) (q : Sequent) → Holds (declared (seen ds q.modules)) (with_declared_modules q) → Holds (declared ds) q
   pub parts : (ds es : scope.Declarations) → ScopeSpeaks NoName (declared (ds ++ es)) ↔ (ScopeSpeaks NoName (declared ds) × ScopeSpeaks NoName (declared es))
 
 pub record Grounds : Type 0 where
   pub typing : OfTyping
+  pub names : OfNames
   pub rules : OfRules
   pub loops : OfLoops
   pub models : OfModels

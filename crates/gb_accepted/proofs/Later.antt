@@ -13,6 +13,7 @@ use Rattle.gb_meaning.specs.Holds.{Holds}
 use Rattle.gb_typing.specs.Sequents.{IsTypedSequent}
 use Rattle.gb_typing.specs.Scopes.{context_of, IsTypedScope}
 use Rattle.gb_elab_laws.specs.Speaking.{IsFirmScope}
+use Rattle.gb_facts.specs.Unblank.{AreUnblank}
 use Rattle.gb_smt_laws.proofs.Used.{each_together}
 use Rattle.gb_accepted.specs.Holding.{Lemma, IsProved, with_entry, lemmas_in, names_of}
 
@@ -55,6 +56,16 @@ none_in before (d ∷ added) h = no_lemma before d.0 d.1 _ h.0 ∙ none_in (befo
 pub firm_together : (ds es : Declarations) → IsFirmScope ds → IsFirmScope es → IsFirmScope (ds ++ es)
 firm_together [] es h k = k
 firm_together (d ∷ ds) es h k = (h.0, firm_together ds es h.1 k)
+
+-- .. and the first ones have none
+pub firm_front : (ds es : Declarations) → IsFirmScope (ds ++ es) → IsFirmScope ds
+firm_front [] es h = tt
+firm_front (d ∷ ds) es h = (h.0, firm_front ds es h.1)
+
+-- names that begin with no blank, behind others
+pub unblank_together : (ds es : Declarations) → AreUnblank ds → AreUnblank es → AreUnblank (ds ++ es)
+unblank_together [] es u v = v
+unblank_together (d ∷ ds) es u v = (u.0, unblank_together ds es u.1 v)
 
 module _ (ds added : Declarations) (others : ClaimNothing added) where
   same_lemmas : lemmas_in [] (ds ++ added) ≡ lemmas_in [] ds

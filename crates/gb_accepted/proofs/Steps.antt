@@ -20,7 +20,7 @@ use Rattle.gb_theory.specs.Limits.{each_limit, all_limit}
 use Rattle.gb_theory.specs.Combinators.{done_at, works}
 use Rattle.gb_theory.specs.Commands.{within, Applied, allowed, RuleAnswers, continued, WorksOn}
 use Rattle.gb_accepted.proofs.Given.{nothing_given, given_after}
-use Rattle.gb_accepted.proofs.Claims.{claim_continues, claim_scope}
+use Rattle.gb_accepted.proofs.Claims.{claim_continues, claim_scope, claim_unblank}
 use Rattle.gb_accepted.proofs.Good.{IsGoodClaim, IsGood}
 use Rattle.gb_accepted.proofs.Kept.{IsSeen, each_kept}
 use Rattle.gb_accepted.proofs.Grounds.{IsGoalThatEnds, IsTypedGoalOf, Grounds, seen}
@@ -51,9 +51,9 @@ rule_leads o before bs w t q goal rs h =
     let c = given_bind (within (each_limit b.0) a.0.place) (λ _. given b.0) rs b.2 in
     let applied : Applied ds a.0.rule a.0.place q (given b.0) = subst (Applied ds a.0.rule a.0.place q) b.1 a.2.1 in
     let k =
-    applied_lead o ds scoped w.hold q typed (o.loops.entered before bs scoped w.firm w.sound w.speaks q typed alone) (o.loops.proved before bs scoped w.firm w.sound w.speaks q typed alone) a.0.rule a.0.place b.0
+    applied_lead o ds scoped q typed (o.loops.entered before bs scoped w.firm w.sound w.speaks q typed alone) (o.loops.proved before bs scoped w.firm w.sound w.speaks q typed alone) a.0.rule a.0.place b.0
     (λ ls rs v. (o.typing.body_rule ds scoped q typed t a.0 a.1 ls rs v, o.typing.rule ds scoped q typed t a.0 a.1 ls rs v, o.typing.call_rule ds scoped q typed t a.0 a.1 ls rs v, o.typing.probabilities_typed ds scoped q typed t a.0 a.1 ls rs v, λ r e. o.typing.abstract_rule ds scoped q typed t a.0 a.1 r e ls rs))
-    (o.typing.conclusion ds scoped q typed t a.0 a.1) (o.typing.used ds scoped (λ x l e plain. w.stated x l e plain) q typed alone t a.0 a.1) (o.typing.hints ds scoped (λ x l e plain. w.stated x l e plain) q typed alone t a.0 a.1)
+    (o.typing.conclusion ds scoped q typed t a.0 a.1) (o.typing.used ds scoped w.stated q typed alone t a.0 a.1) (o.typing.hints ds scoped w.stated q typed alone t a.0 a.1)
     (o.typing.events ds scoped q typed t a.0 a.1) applied in
     subst (LeadIn ds (q ∷ [])) (given_is b.0 rs c.2) (record { typed = each_ends ds q alone b.0 k.typed (applied_same q ds a.0.rule a.0.place b.0 applied) (k.ends goal.ends); leads = λ h. (k.leads goal.ends h, tt) })
 
@@ -69,6 +69,7 @@ continued_keeps s p rest qs place next g h e =
       lemmas = record { names = g.lemmas.names; proved = g.lemmas.proved };
       speaks = g.speaks;
       statements = g.statements;
+      unblank = g.unblank;
       proof = h;
     })
 
@@ -80,6 +81,6 @@ works_keep o (q ∷ rest) s p t place next g h w =
     let bs = modules_of p.claim in
     let ds = seen s.scope bs in
     let b = given_bind (works ds w.0 t (q ∷ [])) (continued s p rest place) next (sym w.2) in
-    let known = each_kept o bs s g (claim_scope s g p.claim (q ∷ rest) h) in
+    let known = each_kept o bs s g (claim_unblank s.scope p.claim (q ∷ rest) h) (claim_scope s g p.claim (q ∷ rest) h) in
     let lead = tactic_keeps (IsGoalThatEnds ds) (Holds (declared ds)) ds (λ n. Unit {0}) w.0 (λ n k r rs good e. rule_leads o s.scope bs known n r good rs (subst (RuleAnswers ds n r) e (w.1 n r))) (λ place. any_node (done_at place)) t (any_node t) (q ∷ []) b.0 (k.goal, tt) b.1 in
     continued_keeps s p rest b.0 place next g (k.next b.0 lead) b.2

@@ -66,7 +66,7 @@ use Rattle.gb_equiv.specs.Rows.{IsTypedRule}
 use Rattle.gb_sim.specs.Sim as same_statements
 use Rattle.gb_amb.specs.Steps.{IsTypedStep}
 use Rattle.gb_linear.specs.Closing.{linear_answer}
-use Rattle.gb_amb.specs.Lemmas.{IsKnown, LemmasHold}
+use Rattle.gb_amb.specs.Lemmas.{IsKnown}
 use Rattle.gb_amb.specs.Uses as uses
 use Rattle.gb_rewrite.specs.Events.{IsTypedLaw}
 use Rattle.gb_rewrite.specs.Rewriting.{IsUsable}
@@ -136,9 +136,9 @@ while_refused ds on.Right v f = refl
 anywhere : (ds : holds.Declarations) (q : Sequent) → InEachSetting ds q (λ g. Unit {0})
 anywhere ds q = λ w size table m. each ds (declared_modules ds) (interpretation w size table) _ (λ i. each ds q.modules i (λ k. Unit {0}) (λ k. tt))
 
--- In a typed scope whose lemmas hold, at a typed goal of which is known where the loops of procedures end that it speaks of, and which
+-- In a typed scope, at a typed goal of which is known where the loops of procedures end that it speaks of, and which
 -- proved loops end.
-module _ (g : Grounds) (ds : Declarations) (scope : IsTyped ds) (holds : LemmasHold (declared ds)) (q : Sequent) (t : IsTypedGoalOf ds q)
+module _ (g : Grounds) (ds : Declarations) (scope : IsTyped ds) (q : Sequent) (t : IsTypedGoalOf ds q)
     (ended : unproved_in ds (goal_of q.conclusion) ≡ None → InEachSetting (declared ds) q (λ s. ProceduresEnd ds s (goal_of q.conclusion))) (proved : InEachSetting (declared ds) q (ProvedEnd ds)) where
   -- no rule on judgments or on probabilities works where a module is quantified in front
   ambient_refused : (r : Rule) (f : Term) → has_module f ≡ true → row_of ds r (ambient f) ≡ refusing Shape
@@ -257,7 +257,7 @@ module _ (g : Grounds) (ds : Declarations) (scope : IsTyped ds) (holds : LemmasH
 
   said_hold : (fs : List Term) → AreSaid ds q t fs → AllByRecursion (λ f. Holds (declared ds) (record q { conclusion = f })) fs
   said_hold [] w = tt
-  said_hold (f ∷ fs) w = (g.rules.instances (declared ds) scope holds q t f w.0.0 w.0.1, said_hold fs w.1)
+  said_hold (f ∷ fs) w = (g.rules.instances (declared ds) scope q t f w.0.0 w.0.1, said_hold fs w.1)
 
   of_smt : (known : List Term) → AreSaid ds q t known → (place : Place) (qs : List Sequent) (found : Option Why) → IsAnswerOf ds (leaves_of known q) found → given qs ≡ closed_unless found place → LeadTo ds q qs
   of_smt known w place qs None a e =
@@ -277,8 +277,8 @@ module _ (g : Grounds) (ds : Declarations) (scope : IsTyped ds) (holds : LemmasH
   event_typed event_law.False k = tt
 
   usable : (r : RewriteRule) → HasTypedEvents ds q t (rule.Rewrite r) → AreSaid ds q t (rewrites_by r) → IsUsable (declared ds) q (around ds q t) r
-  usable (Forward f) k w = (w.0.0, g.rules.instances (declared ds) scope holds q t f w.0.0 w.0.1)
-  usable (Back f) k w = (w.0.0, g.rules.instances (declared ds) scope holds q t f w.0.0 w.0.1)
+  usable (Forward f) k w = (w.0.0, g.rules.instances (declared ds) scope q t f w.0.0 w.0.1)
+  usable (Back f) k w = (w.0.0, g.rules.instances (declared ds) scope q t f w.0.0 w.0.1)
   usable (Subst i) k w = tt
   usable (Unfold x) k w = tt
   usable (Law l) k w = event_typed l k
@@ -357,7 +357,7 @@ module _ (g : Grounds) (ds : Declarations) (scope : IsTyped ds) (holds : LemmasH
       (λ ls rs w. g.rules.abstract_calls ds scope q t k (g.rules.outer (declared ds) q t.frames) ls rs G w ((typed ls rs w).4 k refl))
       (λ ls rs w Gs y s over x. g.loops.abstract_calls ds c ls rs k G w Gs y s over) (sym a)
   applied_lead (rule.CallKnown b f) place qs typed forms used said events a =
-      let known = g.rules.instances (declared ds) scope holds q t f said.0.0 said.0.1 in
+      let known = g.rules.instances (declared ds) scope q t f said.0.0 said.0.1 in
       let k = g.rules.known_calls ds scope q t b f said.0.0 known place qs a in
       record { typed = k.0; ends = g.loops.known_calls ds scope q t b f said.0.0 known place qs a; leads = λ h. k.1 }
   applied_lead (rule.While v) place qs typed forms used said events a =
@@ -369,7 +369,7 @@ module _ (g : Grounds) (ds : Declarations) (scope : IsTyped ds) (holds : LemmasH
       let k = g.rules.on_conclusions (declared ds) scope q f.0 r f.1 place qs a in
       record { typed = k.typed; ends = g.loops.conclusions (declared ds) q f.0 r f.1 place qs a; leads = λ h. k.leads }
   applied_lead (rule.Use r) place qs typed forms used said events a =
-      let k = g.rules.on_uses (declared ds) scope holds q t r (used r refl) place qs a in
+      let k = g.rules.on_uses (declared ds) scope q t r (used r refl) place qs a in
       let w = used r refl in
       record { typed = k.typed; ends = g.loops.uses (declared ds) q c r w.form place qs a; leads = λ h. k.leads }
   applied_lead (rule.Rewrite r) place qs typed forms used said events a =

@@ -6,7 +6,7 @@ use Rattle.gb_core.specs.declared.value.Value.{Value as AnyValue}
 use Rattle.gb_terms.specs.declared.decl.TypedName.{TypedName}
 use Rattle.gb_terms.specs.declared.term.Term.{Term}
 use Rattle.gb_goal.specs.declared.scope.Binder.{Binder}
-use Rattle.gb_goal.specs.declared.scope.Binder.TheVariants.{Value, Memory}
+use Rattle.gb_goal.specs.declared.scope.Binder.TheVariants.{Value, Memory, Module}
 use Rattle.gb_meaning.specs.Memory.{Memory as AnyMemory}
 use Rattle.gb_meaning.specs.Setting.{Setting}
 use Rattle.gb_meaning.specs.Judgments.{Judge, IsFair, den}
@@ -45,6 +45,7 @@ module _ (b : Context) where
   binders_typed [] us [] fs [] w n f v = subst (λ xs. IsForm (small b xs (framed fs)) f) (append-nil us) (subst (λ ls. IsForm (small b (us ++ []) (framed ls)) f) (append-nil fs) v)
   binders_typed [] us [] fs (l ∷ gs) w n f v = absurd w
   binders_typed [] us (u ∷ ws) fs gs w n f v = absurd w
+  binders_typed (Module ∷ ks) us ws fs gs w n f v = absurd w
   binders_typed (Value ∷ ks) us [] fs gs w n f v = absurd w
   binders_typed (Value ∷ ks) us (u ∷ ws) fs gs w n f v =
       let inner = binders_typed ks (us ++ u ∷ []) ws fs gs w n.1 f (subst (λ xs. IsForm (small b xs (framed (fs ++ gs))) f) (sym (append_assoc us (u ∷ []) ws)) v) in
@@ -70,6 +71,7 @@ module _ (b : Context) where
     binders_true [] us [] fs [] w n f v h vs a ms = h vs (subst (λ xs. AreValues g.types xs vs) (sym (append-nil us)) a) ms
     binders_true [] us [] fs (l ∷ gs) w n f v h vs a ms = absurd w
     binders_true [] us (u ∷ ws) fs gs w n f v h vs a ms = absurd w
+    binders_true (Module ∷ ks) us ws fs gs w n f v h vs a ms = absurd w
     binders_true (Value ∷ ks) us [] fs gs w n f v h vs a ms = absurd w
     binders_true (Value ∷ ks) us (u ∷ ws) fs gs w n f v h vs a ms =
         let x = subst (λ xs. IsForm (small b xs (framed (fs ++ gs))) f) (sym (append_assoc us (u ∷ []) ws)) v in

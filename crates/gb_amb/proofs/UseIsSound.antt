@@ -39,7 +39,7 @@ use Rattle.gb_amb.proofs.Around.{Part, here, placed, hypotheses_with, IsTypedPar
 use Rattle.gb_amb.proofs.Wider.{small, wider}
 use Rattle.gb_meaning.specs.Meanings.{truth}
 use Rattle.gb_amb.specs.Instances.{IsInstance, Says}
-use Rattle.gb_amb.specs.Lemmas.{IsKnown, IsLemmaInstance, IsOfStates, LemmasHold, generalized}
+use Rattle.gb_amb.specs.Lemmas.{IsKnown, IsLemmaInstance, IsOfStates, generalized}
 use Rattle.gb_amb.specs.Uses.{ArePremises, IsByPremises, IsAnswer, IsTypedStep}
 use Rattle.gb_amb.proofs.Anywhere.{same_anywhere}
 use Rattle.gb_amb.proofs.Binders.{IsTrueForAll, binders_true, binders_typed, framed}
@@ -131,8 +131,8 @@ module _ (ds : Declarations) (scope : IsTypedScope ds) (q : Sequent) (t : IsType
   used_anywhere f w = wider base [] [] us ns (record { variables = λ i t e. none_some t e; memories = λ i w. absurd (omega (arith, w)) }) f w
 
   -- What a lemma says of its arguments is true: it says it of all values and memories.
-  lemma_known : LemmasHold ds → (f : Term) → IsLemmaInstance ds q c f → Known f
-  lemma_known holds f x =
+  lemma_known : (f : Term) → IsLemmaInstance ds q c f → Known f
+  lemma_known f x =
       let s = x.lemma in
       let o = x.stated in
       let xs = map (λ (v : TypedName). v.ty) s.logical in
@@ -140,7 +140,7 @@ module _ (ds : Declarations) (scope : IsTypedScope ds) (q : Sequent) (t : IsType
       let closed : IsForm (small base [] []) (generalized x.binders s) = binders_typed base x.binders [] xs [] o.frames x.all o.values s.conclusion form in
       record {
         Fact = OfLemma s;
-        always = lemma_always s o x.alone (holds s x.among o.modules);
+        always = lemma_always s o x.alone x.holds;
         true_in = λ k y fits vs ms fit h j fair.
             let g = setting ds k in
             subst (λ d. Says d (generalized x.binders s) x.arguments f → IsSettingOf d g → IsStateOf d g (context vs ms) → den g j f (context vs ms) ≡ true) (sym here_small)
@@ -154,9 +154,9 @@ module _ (ds : Declarations) (scope : IsTypedScope ds) (q : Sequent) (t : IsType
             x.says fits fit;
       }
 
-  known_by : LemmasHold ds → (f : Term) → IsKnown ds q c f → Known f
-  known_by holds f (inl x) = instance_known f x
-  known_by holds f (inr x) = lemma_known holds f x
+  known_by : (f : Term) → IsKnown ds q c f → Known f
+  known_by f (inl x) = instance_known f x
+  known_by f (inr x) = lemma_known f x
 
   -- a goal in the context of another one, with this form as its conclusion
   abbrev concluded : (f : Term) → IsForm c f → IsTypedSequent (context_of ds) (record q { conclusion = f })
@@ -198,17 +198,17 @@ module _ (ds : Declarations) (scope : IsTypedScope ds) (q : Sequent) (t : IsType
       ((hypotheses_with c q.hyps name f t.hyps w, t.conclusion), tt)
       (λ k y fits vs ms fit z h. z.0 (all_true ds k (context vs ms) q.hyps name f h ((without_modules ds f k (context vs ms) (form_front c f w)).1 (x.true_in k y fits vs ms fit h))))
 
-  of_step : LemmasHold ds → (r : UseRule) → IsTypedStep ds q c r → (place : Place) (qs : List Sequent) → IsAnswer r place q (given qs) → LeadTo ds q qs
-  of_step holds (Apply f) w place qs a = of_premises f w.form (known_by holds f w.known) place qs a
-  of_step holds (Have name f) w place qs e = subst (LeadTo ds q) (sym (same_given qs (assuming q name f ∷ []) e)) (by_hypothesis name f w.form (known_by holds f w.known))
+  of_step : (r : UseRule) → IsTypedStep ds q c r → (place : Place) (qs : List Sequent) → IsAnswer r place q (given qs) → LeadTo ds q qs
+  of_step (Apply f) w place qs a = of_premises f w.form (known_by f w.known) place qs a
+  of_step (Have name f) w place qs e = subst (LeadTo ds q) (sym (same_given qs (assuming q name f ∷ []) e)) (by_hypothesis name f w.form (known_by f w.known))
 
-pub instance_holds : (ds : Declarations) → IsTypedScope ds → LemmasHold ds → (q : Sequent) (t : IsTypedSequent (context_of ds) q) → (f : Term) →
+pub instance_holds : (ds : Declarations) → IsTypedScope ds → (q : Sequent) (t : IsTypedSequent (context_of ds) q) → (f : Term) →
     IsForm (of_sequent (context_of ds) q t.frames) f → IsKnown ds q (of_sequent (context_of ds) q t.frames) f → Holds ds (record q { conclusion = f })
-instance_holds ds scope holds q t f w x = form_holds ds scope q t f w (known_by ds scope q t holds f x)
+instance_holds ds scope q t f w x = form_holds ds scope q t f w (known_by ds scope q t f x)
 
-pub steps_sound : (ds : Declarations) → IsTypedScope ds → LemmasHold ds → (q : Sequent) (t : IsTypedSequent (context_of ds) q) → (r : UseRule) →
+pub steps_sound : (ds : Declarations) → IsTypedScope ds → (q : Sequent) (t : IsTypedSequent (context_of ds) q) → (r : UseRule) →
     IsTypedStep ds q (of_sequent (context_of ds) q t.frames) r → (place : Place) (qs : List Sequent) → IsAnswer r place q (given qs) → LeadTo ds q qs
-steps_sound ds scope holds q t r w place qs a = of_step ds scope q t holds r w place qs a
+steps_sound ds scope q t r w place qs a = of_step ds scope q t r w place qs a
 
 -- Answers.
 

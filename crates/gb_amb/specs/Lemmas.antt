@@ -13,7 +13,7 @@ use Rattle.gb_walk.specs.Change.{term_changed}
 use Rattle.gb_goal.specs.declared.scope.Binder.{Binder}
 use Rattle.gb_goal.specs.declared.scope.Binder.TheVariants.{Value, Memory}
 use Rattle.gb_goal.specs.declared.sequent.Sequent.{Sequent}
-use Rattle.gb_meaning.specs.Declared.{Declarations, lemma}
+use Rattle.gb_meaning.specs.Declared.{Declarations}
 use Rattle.gb_meaning.specs.Holds.{Holds}
 use Rattle.gb_laws.specs.Finite.{IsFinite}
 use Rattle.gb_typing.specs.Context.{Context}
@@ -21,16 +21,6 @@ use Rattle.gb_typing.specs.Typing.{IsForm}
 use Rattle.gb_typing.specs.Sequents.{of_sequent}
 use Rattle.gb_typing.specs.Scopes.{context_of}
 use Rattle.gb_amb.specs.Instances.{Argument, IsInstance, Says}
-
--- a lemma of a scope
-abbrev pub IsLemmaIn : Declarations → Sequent → Type 0
-IsLemmaIn [] s = ⊥
-IsLemmaIn ((n, lemma r) ∷ ds) s = (r ≡ s) ⊎ IsLemmaIn ds s
-IsLemmaIn (d ∷ ds) s = IsLemmaIn ds s
-
--- The lemmas of a scope hold in it. Nothing is said of those that bind modules, which no step uses.
-abbrev pub LemmasHold : Declarations → Type 0
-LemmasHold ds = (s : Sequent) → IsLemmaIn ds s → s.modules ≡ [] → Holds ds s
 
 abbrev pub AreFinite : List Ty → Type 0
 AreFinite [] = Unit {0}
@@ -71,12 +61,12 @@ for_binders ks us i m f = f
 abbrev pub generalized : List Binder → Sequent → Term
 generalized ks s = for_binders ks (map (λ x. x.ty) s.logical) 0 0 s.conclusion
 
--- A form that a lemma about values and memories says at a goal without modules: of one term or memory for each of its binders, and of
--- more for what its conclusion quantifies in front.
+-- A form that a statement about values and memories, which holds, says at a goal without modules: of one term or memory for each of its
+-- binders, and of more for what its conclusion quantifies in front. The statement is a lemma's, or what a lemma says of modules.
 pub record IsLemmaInstance (ds : Declarations) (q : Sequent) (c : Context) (f : Term) : Type 0 where
   pub alone : q.modules ≡ []
   pub lemma : Sequent
-  pub among : IsLemmaIn ds lemma
+  pub holds : Holds ds lemma
   pub stated : IsOfStates ds lemma
   pub binders : List Binder
   pub all : AreBindersOf binders (map (λ x. x.ty) lemma.logical) stated.frames

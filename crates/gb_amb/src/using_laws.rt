@@ -13,21 +13,20 @@ ghost use Rattle.gb_typing.specs.Typing.{IsForm};
 ghost use Rattle.gb_typing.specs.Sequents.{of_sequent, IsTypedSequent};
 ghost use Rattle.gb_typing.specs.Scopes.{context_of, IsTypedScope};
 ghost use Rattle.gb_amb.specs.Steps.{LeadTo};
-ghost use Rattle.gb_amb.specs.Lemmas.{IsKnown, LemmasHold};
+ghost use Rattle.gb_amb.specs.Lemmas.{IsKnown};
 ghost use Rattle.gb_amb.specs.Uses.{IsAnswer, IsTypedStep};
 
 /// A step at the goal of a typed scope, by a form that a hypothesis of the goal or a lemma says, gives typed goals, and if each of them
-/// holds, the goal holds, where the lemmas of the scope do that bind no modules.
+/// holds, the goal holds.
 pub fn sound_uses()
-    ensures { (ds : Declarations) → IsTypedScope ds → LemmasHold ds → (q : Sequent) (t : IsTypedSequent (context_of ds) q) → (r : UseRule) →
+    ensures { (ds : Declarations) → IsTypedScope ds → (q : Sequent) (t : IsTypedSequent (context_of ds) q) → (r : UseRule) →
         IsTypedStep ds q (of_sequent (context_of ds) q t.frames) r → (place : Place) (qs : List Sequent) → IsAnswer r place q (given qs) →
         LeadTo ds q qs }
 {}
 
-/// A typed form that a hypothesis of a typed goal or a lemma says of terms holds where it is concluded from the goal's hypotheses, where
-/// the lemmas of the scope do that bind no modules.
+/// A typed form that a hypothesis of a typed goal or a lemma says of terms holds where it is concluded from the goal's hypotheses.
 pub fn instances_hold()
-    ensures { (ds : Declarations) → IsTypedScope ds → LemmasHold ds → (q : Sequent) (t : IsTypedSequent (context_of ds) q) → (f : Term) →
+    ensures { (ds : Declarations) → IsTypedScope ds → (q : Sequent) (t : IsTypedSequent (context_of ds) q) → (f : Term) →
         IsForm (of_sequent (context_of ds) q t.frames) f → IsKnown ds q (of_sequent (context_of ds) q t.frames) f →
         Holds ds (record q { conclusion = f }) }
 {}

@@ -4,7 +4,6 @@ ghost use Rattle.std.specs.Prelude.{◌≡◌, None, IfOk};
 ghost use Rattle.std.specs.Option.{option_copied, option_map};
 ghost use Rattle.gb_script.specs.Tree.{head_of};
 ghost use Rattle.gb_goal.specs.Answers.{Answers};
-ghost use Rattle.gb_goal.specs.Answers.Answer.{given};
 ghost use Rattle.gb_goal.specs.Scope.{module_of};
 ghost use Rattle.gb_names.specs.Environment.{environment};
 ghost use Rattle.gb_names.specs.Names.{global_in};
@@ -74,8 +73,8 @@ fn agrees(
     left: Side,
     right: Side,
     global: ModuleVariable<'_>,
-) -> Result<Form, Refused>
-    ensures { Answers (given (agrees left right (global.entry.owner, global.entry.variable.now))) result }
+) -> Result<Form, AllocError>
+    ensures { IfOk result (λ made. made ≡ agrees left right (global.entry.owner, global.entry.variable.now)) }
 {
     let again = ModuleVariable {
         owner: global.owner.copy(alloc)?,
@@ -83,7 +82,7 @@ fn agrees(
     };
     let first = global_variable(alloc, left, global)?;
     let second = global_variable(alloc, right, again)?;
-    Ok(make::equality(alloc, first, second)?)
+    make::equality(alloc, first, second)
 }
 
 /// All that is an abstract module's own, as one value, read in a memory.
@@ -112,8 +111,8 @@ fn agreed(
     left: Side,
     right: Side,
     variable: &Var,
-) -> Result<Option<Form>, Refused>
-    ensures { Answers (given (agreed scope.now left right variable.now)) result }
+) -> Result<Option<Form>, AllocError>
+    ensures { IfOk result (λ made. made ≡ agreed scope.now left right variable.now) }
 {
     match variable {
         Var::Glob { module } => match scope.abstract_module(module) {
@@ -144,8 +143,8 @@ fn agreements(
     left: Side,
     right: Side,
     list: &[Var],
-) -> Result<Option<Form>, Refused>
-    ensures { Answers (given (agreements scope.now left right None list.now)) result }
+) -> Result<Option<Form>, AllocError>
+    ensures { IfOk result (λ made. made ≡ agreements scope.now left right None list.now) }
 {
     let mut form = None;
     for variable in list {
@@ -157,18 +156,18 @@ fn agreements(
 }
 
 /// These globals are the same in two memories; `true` where there are none.
-fn agreement_on(
+pub fn agreement_on(
     alloc: Global,
     scope: &Scope,
     left: Side,
     right: Side,
     list: &[Var],
-) -> Result<Form, Refused>
-    ensures { Answers (given (true_if_none (agreements scope.now left right None list.now))) result }
+) -> Result<Form, AllocError>
+    ensures { IfOk result (λ made. made ≡ true_if_none (agreements scope.now left right None list.now)) }
 {
     match agreements(alloc, scope, left, right, list)? {
         Some(form) => Ok(form),
-        None => Ok(make::boolean(alloc, true)?),
+        None => make::boolean(alloc, true),
     }
 }
 
@@ -184,13 +183,13 @@ fn agreement(
     ensures { Answers (agreement scope.now «module».now left right place) result }
 {
     match footprint(alloc, scope, module)? {
-        Some(list) => agreement_on(alloc, scope, left, right, list.as_slice()),
+        Some(list) => Ok(agreement_on(alloc, scope, left, right, list.as_slice())?),
         None => Err(not_built(place)),
     }
 }
 
 /// Whether it is an abstract module by itself; with modules for its parameters it isn't one any more.
-fn is_abstract(scope: &Scope, module: &Mexp) -> bool
+pub fn is_abstract(scope: &Scope, module: &Mexp) -> bool
     ensures { result ≡ is_abstract scope.now «module».now }
 {
     match module {

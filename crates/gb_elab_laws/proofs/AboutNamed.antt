@@ -6,7 +6,6 @@ use Rattle.std.proofs.lemmas.Bool.{false≢true}
 use Rattle.gb_core.specs.declared.ty.Ty.{Ty}
 use Rattle.gb_core.specs.declared.var.Var.{Var}
 use Rattle.gb_core.specs.declared.var.Var.TheVariants as var
-use Rattle.gb_core.specs.SameTypes.{ty_eq}
 use Rattle.gb_core.proofs.SameTypes.{ty_eq-Decides}
 use Rattle.gb_terms.specs.declared.decl.TypedName.{TypedName}
 use Rattle.gb_terms.specs.declared.module.ProcRef.{ProcRef}
@@ -39,7 +38,7 @@ use Rattle.gb_typing.specs.Changes.{binder, Made}
 use Rattle.gb_typing.specs.Context.{Context, Frame, procedure, erased, frame_of, local_in, with_own, with_sides, within}
 use Rattle.gb_typing.specs.Modules.{procedure_type}
 use Rattle.gb_typing.specs.Sequents.{of_sequent, IsTypedSequent}
-use Rattle.gb_typing.specs.Typing.{IsFrame, IsIn, IsPlace, IsThere, before, after, procedure_in, IsNamed, first, middle, last, IsTyped, AreTyped, IsForm}
+use Rattle.gb_typing.specs.Typing.{IsFrame, IsPlace, IsThere, before, after, IsNamed, first, middle, last, IsTyped, AreTyped, IsForm}
 use Rattle.gb_typing.proofs.Every.{leaf_moved, side_of}
 use Rattle.gb_typing.proofs.Made.{EachMade, made_node}
 use Rattle.gb_typing.proofs.Shapes.{node_out}

@@ -1,5 +1,5 @@
 -- What `conseq` says anew is typed over the memories before and after what a judgment speaks of.
-use Rattle.std.proofs.Common.{◌≡◌, List, [], ◌∷◌, Option, Some, None, refl, ap, sym, ◌∙◌, subst, true}
+use Rattle.std.proofs.Common.{◌≡◌, List, [], ◌∷◌, Option, Some, None, refl, ap, sym, ◌∙◌, subst}
 use Rattle.std.proofs.lemmas.Option.{none-some}
 use Rattle.gb_core.specs.declared.ty.Ty.TheVariants as ty
 use Rattle.gb_terms.specs.declared.decl.TypedName.{TypedName}
@@ -31,11 +31,11 @@ use Rattle.gb_typing.specs.Goals.{IsCode, IsGoalOver, frame_before, frame_after}
 use Rattle.gb_typing.proofs.Lifted.{sequent_outermost}
 use Rattle.gb_names.specs.Environment.{Environment, ambient as outside, relational, unary}
 use Rattle.gb_elab.specs.Forms.{elaborated}
-use Rattle.gb_elab_mod.specs.Occurring.{occurring, read_locals}
+use Rattle.gb_elab_mod.specs.Occurring.{read_locals}
 use Rattle.gb_elab_mod.specs.OnPrograms.{params_if, result_if, locals_before, locals_after, term_if, said_anew, conseq_of, conseq_rule}
-use Rattle.gb_bodies.specs.Conseq.{IsCondition, IsBound, IsTypedWeakened}
+use Rattle.gb_bodies.specs.Conseq.{IsCondition, IsBound}
 use Rattle.gb_bodies.specs.Rows.{IsTypedRule}
-use Rattle.gb_elab_laws.specs.Fitting.{AreIn, IsFitting}
+use Rattle.gb_elab_laws.specs.Fitting.{AreIn, IsFitting, of_each_module}
 use Rattle.gb_elab_laws.specs.Reading.{StandIn}
 use Rattle.gb_elab_laws.proofs.Ends.{occurring_in}
 use Rattle.gb_elab_laws.proofs.Fits.{goal_fits}
@@ -46,7 +46,7 @@ use Rattle.gb_elab_laws.proofs.Occurring.{reads_stand}
 use Rattle.gb_elab_laws.proofs.OneProcedure.{condition}
 
 -- no locals, of a memory that there is
-pub no_locals : (F : Frame) → IsFrame F → AreIn true F []
+pub no_locals : (F : Frame) → IsFrame F → AreIn of_each_module F []
 no_locals F m = record { memory = m; there = λ x u e. absurd (none-some u e); finite = tt }
 
 memory_before : (o : Option ProcedureType) → IsThere o → IsFrame (before o)
@@ -57,7 +57,7 @@ memory_after : (o : Option ProcedureType) → IsThere o → IsFrame (after o)
 memory_after (Some t) h = tt
 memory_after None h = absurd h
 
-condition_if : (c : Context) (at : Environment) → IsFitting true c at [] → (ns : List Node) (o : Option Term) → term_if at ty.Bool ns ≡ given o → IsCondition c o
+condition_if : (c : Context) (at : Environment) → IsFitting of_each_module c at [] → (ns : List Node) (o : Option Term) → term_if at ty.Bool ns ≡ given o → IsCondition c o
 condition_if c at fits [] o h = subst (IsCondition c) {x = None} (given_is None o h) tt
 condition_if c at fits (n ∷ ns) o h =
     let f = given_bind (elaborated n at [] (Some ty.Bool)) (λ (f : Term). given (Some f)) o h in
@@ -68,7 +68,7 @@ module _ (ds : scope.Declarations) (scoped : IsTypedScope (declared ds)) (q : Se
   abbrev here : Context
   here = of_sequent (context_of (declared ds)) q t.frames
 
-  pub fits : IsFitting true here (outside ds q) []
+  pub fits : IsFitting of_each_module here (outside ds q) []
   fits = goal_fits ds scoped q t
 
   -- a bound reads none of the memories of a judgment
@@ -81,21 +81,21 @@ module _ (ds : scope.Declarations) (scoped : IsTypedScope (declared ds)) (q : Se
       subst (IsBound here) {x = Some f.0} (given_is (Some f.0) o f.2) (subst (λ d. IsTyped d f.0) (outer ∙ sym (ap (λ d. with_own d None) outer)) e.typed, e.wanted)
 
   -- the locals of a memory
-  pub params_stand : (f : ProcRef) → IsThere (procedure here f) → (o : Option ProcedureType) → procedure_type ds None f ≡ o → AreIn true (before (procedure here f)) (params_if o)
+  pub params_stand : (f : ProcRef) → IsThere (procedure here f) → (o : Option ProcedureType) → procedure_type ds None f ≡ o → AreIn of_each_module (before (procedure here f)) (params_if o)
   params_stand f h None e = no_locals (before (procedure here f)) (memory_before (procedure here f) h)
   params_stand f h (Some a) e = params_in (procedure here f) a (fits.procedures refl f a e)
 
-  pub result_stands : (f : ProcRef) → IsThere (procedure here f) → (o : Option ProcedureType) → procedure_type ds None f ≡ o → AreIn true (after (procedure here f)) (result_if o)
+  pub result_stands : (f : ProcRef) → IsThere (procedure here f) → (o : Option ProcedureType) → procedure_type ds None f ≡ o → AreIn of_each_module (after (procedure here f)) (result_if o)
   result_stands f h None e = no_locals (after (procedure here f)) (memory_after (procedure here f) h)
   result_stands f h (Some a) e = result_in (procedure here f) a (fits.procedures refl f a e)
 
   stand_before : (ms : List TypedName) (a : Code) → IsCode here ms a → (p g : Term) (r : Side) → StandIn (frame_before here ms a) (read_locals p r) → StandIn (frame_after here ms a) (read_locals g r) →
-      AreIn true (frame_before here ms a) (locals_before ds p g r a)
+      AreIn of_each_module (frame_before here ms a) (locals_before ds p g r a)
   stand_before ms (body is) w p g r k l = occurring_in ms here ds (fits.procedures refl) r p g is k l w
   stand_before ms (of_procedure f) w p g r k l = params_stand f w (procedure_type ds None f) refl
 
   stand_after : (ms : List TypedName) (a : Code) → IsCode here ms a → (p g : Term) (r : Side) → StandIn (frame_before here ms a) (read_locals p r) → StandIn (frame_after here ms a) (read_locals g r) →
-      AreIn true (frame_after here ms a) (locals_after ds p g r a)
+      AreIn of_each_module (frame_after here ms a) (locals_after ds p g r a)
   stand_after ms (body is) w p g r k l = occurring_in ms here ds (fits.procedures refl) r p g is k l w
   stand_after ms (of_procedure f) w p g r k l = result_stands f w (procedure_type ds None f) refl
 
@@ -103,7 +103,7 @@ module _ (ds : scope.Declarations) (scoped : IsTypedScope (declared ds)) (q : Se
   Typed G r = IsTypedRule here (rule.OnBodies r) ls rs G
 
   -- what is said anew at a judgment whose conditions are said of these contexts
-  module _ (G : Goal) (A B : Context) (C D : Environment) (u : IsFitting true A C []) (v : IsFitting true B D [])
+  module _ (G : Goal) (A B : Context) (C D : Environment) (u : IsFitting of_each_module A C []) (v : IsFitting of_each_module B D [])
       (typed : (f h b : Option Term) → IsCondition A f → IsCondition B h → IsBound here b → Typed G (on_bodies.Conseq (record { pre = f; post = h; bound = b }))) where
     anew_typed : (fs hs bs : List Node) (r : BodyRule) → said_anew C D (outside ds q) fs hs bs ≡ given r → Typed G r
     anew_typed fs hs bs r k =
@@ -114,13 +114,13 @@ module _ (ds : scope.Declarations) (scoped : IsTypedScope (declared ds)) (q : Se
         (typed x.0 y.0 z.0 (condition_if A C u fs x.0 x.1) (condition_if B D v hs y.0 y.1) (bound_if bs z.0 z.1))
 
   one_fits_before : (a : Code) (p g : Term) → IsCode here ls a → IsForm (with_own here (frame_before here ls a)) p → IsForm (with_own here (frame_after here ls a)) g →
-      IsFitting true (with_own here (frame_before here ls a)) (unary ds q (locals_before ds p g side.Own a)) []
+      IsFitting of_each_module (with_own here (frame_before here ls a)) (unary ds q (locals_before ds p g side.Own a)) []
   one_fits_before a p g w x y =
       condition here (outside ds q) [] fits refl (frame_before here ls a) (locals_before ds p g side.Own a)
       (stand_before ls a w p g side.Own (reads_stand (with_own here (frame_before here ls a)) p x.typed side.Own tt) (reads_stand (with_own here (frame_after here ls a)) g y.typed side.Own tt))
 
   one_fits_after : (a : Code) (p g : Term) → IsCode here ls a → IsForm (with_own here (frame_before here ls a)) p → IsForm (with_own here (frame_after here ls a)) g →
-      IsFitting true (with_own here (frame_after here ls a)) (unary ds q (locals_after ds p g side.Own a)) []
+      IsFitting of_each_module (with_own here (frame_after here ls a)) (unary ds q (locals_after ds p g side.Own a)) []
   one_fits_after a p g w x y =
       condition here (outside ds q) [] fits refl (frame_after here ls a) (locals_after ds p g side.Own a)
       (stand_after ls a w p g side.Own (reads_stand (with_own here (frame_before here ls a)) p x.typed side.Own tt) (reads_stand (with_own here (frame_after here ls a)) g y.typed side.Own tt))

@@ -1,9 +1,9 @@
 -- What stands around the statements of a procedure, and the variables that they write.
-use Rattle.std.proofs.Common.{◌≡◌, true, List, [], ◌∷◌, ◌++◌, map, Option, Some, None, refl, ap, sym, ◌∙◌, subst, false}
+use Rattle.std.proofs.Common.{◌≡◌, List, [], ◌∷◌, ◌++◌, map, Option, Some, None, refl, ap, sym, ◌∙◌, subst}
+use Rattle.std.specs.List.{AllByRecursion}
 use Rattle.std.specs.Option.{option_map_or}
 use Rattle.gb_core.specs.declared.place.Place.{Place}
 use Rattle.gb_core.specs.declared.ty.Ty.{Ty}
-use Rattle.gb_core.specs.declared.ty.Ty.TheVariants as ty
 use Rattle.gb_core.specs.declared.var.Var.TheVariants.{Local, Global}
 use Rattle.gb_terms.specs.declared.decl.Module.{Module}
 use Rattle.gb_terms.specs.declared.decl.TypedName.{TypedName}
@@ -26,18 +26,18 @@ use Rattle.gb_laws.specs.Finite.{IsFinite, IsVariableType}
 use Rattle.gb_typing.proofs.Variables.{variable_finite}
 use Rattle.gb_laws.specs.Operators.{parts_in}
 use Rattle.gb_laws.specs.Programs.{HaveTypes, Take, variable_type}
-use Rattle.gb_laws.proofs.Constructors.{tuple_is}
 use Rattle.gb_typing.specs.Context.{Context, erased, of_program, procedure}
 use Rattle.gb_typing.specs.Naming.{NoName}
 use Rattle.gb_elab_laws.specs.Speaking.{StatementSpeaks, BodySpeaks}
 use Rattle.gb_typing.specs.Programs.{IsExpression, IsStatement, EachStatement, HaveVariableTypes}
-use Rattle.gb_elab_laws.specs.Fitting.{AreDeclared, HasGlobals, IsFitting, IsGiven, IsTypeOf}
+use Rattle.gb_elab_laws.specs.Fitting.{AreDeclared, HasGlobals, IsFitting, IsGiven, IsTypeOf, of_no_module}
 use Rattle.gb_elab_laws.proofs.Given.{given_bind, given_is}
 use Rattle.gb_elab_laws.proofs.Quantified.{variables_with}
 use Rattle.gb_elab_laws.proofs.Found.{found}
 use Rattle.gb_elab_laws.proofs.Fits.{program_fits}
 use Rattle.gb_elab_laws.proofs.Leaves.{global_stands}
-use Rattle.gb_elab_laws.proofs.Shapes.{EachFiniteWith, parts_are, row_finite}
+use Rattle.gb_elab_laws.proofs.Shapes.{parts_are, without_globs}
+use Rattle.gb_elab_laws.proofs.Types.{tuple_typed}
 
 -- A module is typed so far among declarations, whose globals stand in a context, and so do its own, and the procedures that are known
 -- inside of it: those of declared modules, its own ones, and those of its parameters.
@@ -54,7 +54,7 @@ module _ (ds : Declarations) (c : Context) (m : Module) (around : IsAround ds c 
   abbrev pub inner : Context
   inner = of_program c vs
 
-  pub fits : IsFitting false inner here []
+  pub fits : IsFitting of_no_module inner here []
   fits = program_fits c ds m vs around.names around.others around.own typed
 
   -- a typed statement that speaks of no module's globals together, and several
@@ -65,7 +65,7 @@ module _ (ds : Declarations) (c : Context) (m : Module) (around : IsAround ds c 
   AreMade is = EachStatement c vs is × BodySpeaks NoName is
 
   -- what is typed in a program is an expression
-  pub expression : (w : _) (e : Term) → IsGiven false inner Program w e → IsExpression c vs e
+  pub expression : (w : _) (e : Term) → IsGiven of_no_module inner Program w e → IsExpression c vs e
   expression w e g = record { typed = g.typed; plain = g.plain refl }
 
   -- what a statement writes is a variable of its type
@@ -83,7 +83,7 @@ module _ (ds : Declarations) (c : Context) (m : Module) (around : IsAround ds c 
           option_map_or (λ l. given (Local l.name, l.ty)) o (option_map_or global_target (global_at here [] x) (refused (no_variable here [] x) p)) ≡ given v → IsTarget v
       local (Some l) e k =
           let f = found vs x l e in
-          subst IsTarget {x = (Local l.name, l.ty)} (given_is (Local l.name, l.ty) v k) (ap (local_type vs) f.name ∙ f.frame, f.finite_with false (variables_with false vs typed))
+          subst IsTarget {x = (Local l.name, l.ty)} (given_is (Local l.name, l.ty) v k) (ap (local_type vs) f.name ∙ f.frame, without_globs l.ty (f.finite_with of_no_module (variables_with of_no_module vs typed)))
       local None e k = global (global_at here [] x) refl k
 
   -- several variables
@@ -116,30 +116,18 @@ module _ (ds : Declarations) (c : Context) (m : Module) (around : IsAround ds c 
   have_types [] h = tt
   have_types (w ∷ ws) h = (h.0.0, have_types ws h.1)
 
-  pub each_finite : (ws : List Target) → AreTargets ws → EachFiniteWith true (types ws)
-  each_finite [] h = tt
-  each_finite (w ∷ ws) h = (variable_finite w.1 h.0.1, each_finite ws h.1)
-
-  many_finite : (ts : List Ty) → EachFiniteWith true ts → IsFinite (ty.Tuple ts)
-  many_finite ts h = subst IsFinite (sym (tuple_is ts)) (row_finite true ts h)
-
-  -- what they take together is a value, and they take it
-  pub all_finite : (ws : List Target) → AreTargets ws → IsFinite (type_of_all ws)
-  all_finite (w ∷ []) h = variable_finite w.1 h.0.1
-  all_finite [] h = many_finite [] tt
-  all_finite (w ∷ v ∷ ws) h = many_finite (types (w ∷ v ∷ ws)) (each_finite (w ∷ v ∷ ws) h)
-
-  many_variable : (ts : List Ty) → EachFiniteWith false ts → IsVariableType (ty.Tuple ts)
-  many_variable ts h = subst IsVariableType (sym (tuple_is ts)) (row_finite false ts h)
-
-  each_variable : (ws : List Target) → AreTargets ws → EachFiniteWith false (types ws)
+  each_variable : (ws : List Target) → AreTargets ws → AllByRecursion IsVariableType (types ws)
   each_variable [] h = tt
   each_variable (w ∷ ws) h = (h.0.1, each_variable ws h.1)
 
+  -- what they take together is a value, and they take it
   pub all_variable : (ws : List Target) → AreTargets ws → IsVariableType (type_of_all ws)
   all_variable (w ∷ []) h = h.0.1
-  all_variable [] h = many_variable [] tt
-  all_variable (w ∷ v ∷ ws) h = many_variable (types (w ∷ v ∷ ws)) (each_variable (w ∷ v ∷ ws) h)
+  all_variable [] h = tuple_typed [] tt
+  all_variable (w ∷ v ∷ ws) h = tuple_typed (types (w ∷ v ∷ ws)) (each_variable (w ∷ v ∷ ws) h)
+
+  pub all_finite : (ws : List Target) → AreTargets ws → IsFinite (type_of_all ws)
+  all_finite ws h = variable_finite (type_of_all ws) (all_variable ws h)
 
   pub all_take : (ws : List Target) (t : Ty) → AreTargets ws → t ≡ type_of_all ws → Take (erased c) vs (variables_of ws) t
   all_take [] t h e = tt

@@ -8,7 +8,7 @@ use Rattle.gb_core.specs.declared.ty.Ty.TheVariants as ty
 use Rattle.gb_terms.specs.declared.term.Term.{Term}
 use Rattle.gb_goal.specs.Answers.{given_or}
 use Rattle.gb_goal.specs.Answers.Answer.{given, refused}
-use Rattle.gb_laws.specs.Finite.{IsFiniteWith}
+use Rattle.gb_meaning.specs.Names.{Name}
 use Rattle.gb_typing.specs.Context.{Context}
 use Rattle.gb_names.specs.Allowed.{distribution_here, stands, is_distribution}
 use Rattle.gb_names.specs.Environment.{Environment}
@@ -24,14 +24,14 @@ use Rattle.gb_operators.specs.Drawn.{source_wanted, value_wanted}
 use Rattle.gb_operators.specs.Kinds.{element, entries, outcome}
 use Rattle.gb_operators.specs.Operators.{first_wanted, operand_wanted, shaped, takes}
 use Rattle.gb_operators.specs.Rules.{asked, factor_wanted, of_type, outcome_of, parts_wanted, values}
-use Rattle.gb_elab_laws.specs.Fitting.{IsFormType, IsFormTypeIf, IsGiven}
+use Rattle.gb_elab_laws.specs.Fitting.{IsFormType, IsFormTypeIf, IsGiven, IsFiniteIn}
 use Rattle.gb_elab_laws.proofs.Given.{given_bind, if_allowed, if_refused, some_given}
 use Rattle.gb_elab_laws.proofs.Shapes.{finite_form, outcome_finite, entries_finite}
 use Rattle.gb_elab_laws.proofs.Tested.{distribution_of, map_of, element_of, got_form}
 use Rattle.gb_elab_laws.proofs.Measured.{parameter_form}
 use Rattle.gb_elab_laws.proofs.Asked.{IsRule, IsAskable, AreOperands, as_branch, as_form, as_source, asks, first_known, factor_known, one_of_both, operand_known, own_type, parts_known, source_known, value_known}
 
-module _ (globs : Bool) (c : Context) (at : Environment) (w : Option Ty) (p : Place) (f : IsFormTypeIf globs w) where
+module _ (globs : Name → Bool) (c : Context) (at : Environment) (w : Option Ty) (p : Place) (f : IsFormTypeIf globs w) where
   -- the first parts
   pub first_side : (i : Infix) (s : Term) (ts : List Term) → AreOperands globs c at (rule.Two i) w p [] (s ∷ ts) → IsGiven globs c at.language (first_wanted i.operands w) s
   unfolding asked
@@ -65,12 +65,12 @@ module _ (globs : Bool) (c : Context) (at : Environment) (w : Option Ty) (p : Pl
 
   -- the types of the entries of a typed map, and those of the outcomes of a typed distribution
   pub entries_typed : (v : Option Ty) (s : Term) (e : Ty × Ty) → IsGiven globs c at.language v s → given_or (entries (type_of_term s)) TypeMismatch p ≡ given e →
-      IsFiniteWith globs e.0 × IsFiniteWith globs e.1
+      IsFiniteIn globs e.0 × IsFiniteIn globs e.1
   entries_typed v s e g h =
       let same = map_of (type_of_term s) e (some_given (entries (type_of_term s)) TypeMismatch p e h) in
       entries_finite globs e.0 e.1 (subst (IsFormType globs) same (own_type globs c at v s g))
 
-  pub outcomes_typed : (v : Option Ty) (s : Term) (t : Ty) → IsGiven globs c at.language v s → outcome_of s p ≡ given t → IsFiniteWith globs t
+  pub outcomes_typed : (v : Option Ty) (s : Term) (t : Ty) → IsGiven globs c at.language v s → outcome_of s p ≡ given t → IsFiniteIn globs t
   outcomes_typed v s t g h =
       let same = distribution_of (type_of_term s) t (some_given (outcome (type_of_term s)) TypeMismatch p t h) in
       outcome_finite globs t (subst (IsFormType globs) same (own_type globs c at v s g))

@@ -10,7 +10,7 @@ use Rattle.gb_terms.specs.declared.op.Op.TheVariants as op
 use Rattle.gb_terms.specs.declared.term.Term.{Term}
 use Rattle.gb_goal.specs.Answers.{given_or}
 use Rattle.gb_goal.specs.Answers.Answer.{given, refused}
-use Rattle.gb_laws.specs.Finite.{IsFiniteWith}
+use Rattle.gb_meaning.specs.Names.{Name}
 use Rattle.gb_laws.specs.Typing.{Binder}
 use Rattle.gb_laws.specs.Typing.Binder.{value, index}
 use Rattle.gb_typing.specs.Context.{Context, within}
@@ -33,9 +33,9 @@ use Rattle.gb_operators.specs.Drawn.{outcome_wanted, source_wanted, value_wanted
 use Rattle.gb_operators.specs.Kinds.{components, inside_option, is_of_values, outcome}
 use Rattle.gb_operators.specs.Operators.{first_wanted, operand_wanted, option_wanted, part_wanted}
 use Rattle.gb_operators.specs.Rules.{asked, factor_wanted, factors, pair, parts_wanted}
-use Rattle.gb_elab_laws.specs.Fitting.{IsFormType, IsFormTypeIf, IsUsable, IsGiven}
+use Rattle.gb_elab_laws.specs.Fitting.{IsFormType, IsFormTypeIf, IsUsable, IsGiven, IsFiniteIn}
 use Rattle.gb_elab_laws.proofs.Given.{given_bind, given_is, if_allowed, if_given, if_refused, none_some, out_type, same_some, some_given}
-use Rattle.gb_elab_laws.proofs.Shapes.{EachFiniteWith, finite_form, drawn_form, option_form, outcome_finite, some_finite, parts_finite}
+use Rattle.gb_elab_laws.proofs.Shapes.{EachFiniteIn, finite_form, drawn_form, option_form, outcome_finite, some_finite, parts_finite}
 use Rattle.gb_elab_laws.proofs.Tested.{of_values, option_of, distribution_of, tuple_of}
 use Rattle.gb_elab_laws.proofs.Typed.{Typed, of_any}
 
@@ -60,12 +60,12 @@ abbrev pub binder_of : Domain → Binder
 binder_of (Exactly t) = value t
 binder_of (Below n) = index n
 
-abbrev pub IsDomain : Bool → Domain → Type 0
-IsDomain globs (Exactly t) = IsFiniteWith globs t
+abbrev pub IsDomain : (Name → Bool) → Domain → Type 0
+IsDomain globs (Exactly t) = IsFiniteIn globs t
 IsDomain globs (Below n) = 0 < n
 
 -- what is known of a rule in a context
-abbrev pub IsRule : Context → Bool → Rule → Type 0
+abbrev pub IsRule : Context → (Name → Bool) → Rule → Type 0
 IsRule c globs (rule.Annotated t) = IsFormType globs t
 IsRule c globs (rule.Two i) = Suits i.op i.operands
 IsRule c globs (rule.User x o) = IsUsable (c.operator x) o
@@ -73,13 +73,13 @@ IsRule c globs (rule.Sum n) = 0 < n
 IsRule c globs _ = Unit {0}
 
 -- what is asked may be asked
-abbrev pub IsAskable : Bool → Asked → Type 0
+abbrev pub IsAskable : (Name → Bool) → Asked → Type 0
 IsAskable globs (Form w) = IsFormTypeIf globs w
 IsAskable globs (Branch w) = IsFormTypeIf globs w
 IsAskable globs (Source w) = IsFormTypeIf globs w
 IsAskable globs (Function d w) = IsDomain globs d × IsFormTypeIf globs w
 
-module _ (globs : Bool) (c : Context) (at : Environment) where
+module _ (globs : Name → Bool) (c : Context) (at : Environment) where
   -- a typed part, as it is asked for
   abbrev pub IsOperand : Asked → Term → Type 0
   IsOperand (Form w) t = IsGiven globs c at.language w t
@@ -125,16 +125,16 @@ one_of_both P true x y h k = h
 one_of_both P false x y h k = k
 
 -- Which types are wanted of parts.
-module _ (globs : Bool) where
+module _ (globs : Name → Bool) where
   pub asks : (k : Asked) (x : Asked) → given x ≡ given k → IsAskable globs x → IsAskable globs k
   asks k x e h = subst (IsAskable globs) (given_is x k e) h
 
-  pub parts_known : (w : Option Ty) (n : ℕ) (p : Place) (ws : List Ty) → IsFormTypeIf globs w → parts_wanted w n p ≡ given ws → EachFiniteWith globs ws
-  parts_known None n p ws f e = subst (EachFiniteWith globs) (given_is [] ws e) tt
+  pub parts_known : (w : Option Ty) (n : ℕ) (p : Place) (ws : List Ty) → IsFormTypeIf globs w → parts_wanted w n p ≡ given ws → EachFiniteIn globs ws
+  parts_known None n p ws f e = subst (EachFiniteIn globs) (given_is [] ws e) tt
   parts_known (Some t) n p ws f e =
       let ts = given_bind (given_or (components t) TypeMismatch p) (λ ts. if length ts == n then given ts else refused TypeMismatch p) ws e in
       let same = if_given (length ts.0 == n) ts.0 TypeMismatch p ws ts.2 in
-      subst (EachFiniteWith globs) same.1
+      subst (EachFiniteIn globs) same.1
       (parts_finite globs ts.0 (subst (IsFormType globs) (tuple_of t ts.0 (some_given (components t) TypeMismatch p ts.0 ts.1)) f))
 
   -- the part of a wanted type, of options or of distributions
@@ -206,12 +206,12 @@ module _ (globs : Bool) where
       let v = given_bind (part_wanted outcome w p) (λ _. given w) x k.2 in subst (IsFormTypeIf globs) (given_is w x v.2) f
 
   -- the sides of a product of distributions
-  pair_known : (us : List Ty) (f : Ty × Ty) → EachFiniteWith globs us → pair us ≡ Some f → IsFiniteWith globs f.0 × IsFiniteWith globs f.1
+  pair_known : (us : List Ty) (f : Ty × Ty) → EachFiniteIn globs us → pair us ≡ Some f → IsFiniteIn globs f.0 × IsFiniteIn globs f.1
   pair_known (a ∷ b ∷ []) f h e =
-      subst (λ (z : Ty × Ty). IsFiniteWith globs z.0 × IsFiniteWith globs z.1) (same_some (a, b) f e) (h.0, h.1.0)
+      subst (λ (z : Ty × Ty). IsFiniteIn globs z.0 × IsFiniteIn globs z.1) (same_some (a, b) f e) (h.0, h.1.0)
   pair_known _ f h e = none_some f e
 
-  factors_known : (t : Ty) (f : Ty × Ty) (p : Place) → IsFormType globs t → factors t p ≡ given f → IsFiniteWith globs f.0 × IsFiniteWith globs f.1
+  factors_known : (t : Ty) (f : Ty × Ty) (p : Place) → IsFormType globs t → factors t p ≡ given f → IsFiniteIn globs f.0 × IsFiniteIn globs f.1
   factors_known t f p h e =
       let u = given_bind (given_or (outcome t) TypeMismatch p) _ f e in
       let us = given_bind (given_or (components u.0) TypeMismatch p) (λ us. given_or (pair us) TypeMismatch p) f u.2 in
@@ -224,4 +224,4 @@ module _ (globs : Bool) where
   factor_known (Some t) x b p f e =
       let k = given_bind (factors t p) (λ (z : Ty × Ty). given (Some (ty.Distr (if b then z.0 else z.1)))) x e in
       let h = factors_known t k.0 p f k.1 in
-      subst (IsFormTypeIf globs) (given_is (Some (ty.Distr (if b then k.0.0 else k.0.1))) x k.2) (drawn_form globs (if b then k.0.0 else k.0.1) (one_of_both (IsFiniteWith globs) b k.0.0 k.0.1 h.0 h.1))
+      subst (IsFormTypeIf globs) (given_is (Some (ty.Distr (if b then k.0.0 else k.0.1))) x k.2) (drawn_form globs (if b then k.0.0 else k.0.1) (one_of_both (IsFiniteIn globs) b k.0.0 k.0.1 h.0 h.1))

@@ -1,5 +1,5 @@
 -- What commands `op` declare is typed.
-use Rattle.std.proofs.Common.{◌≡◌, false, List, [], ◌∷◌, ◌++◌, map, reverse, take, drop, length, Option, Some, None, refl, sym, subst}
+use Rattle.std.proofs.Common.{◌≡◌, List, [], ◌∷◌, ◌++◌, map, reverse, take, drop, length, Option, Some, None, refl, sym, subst}
 use Rattle.std.specs.Prelude.{pred}
 use Rattle.std.proofs.lemmas.Bool.{false≢true}
 use Rattle.std.proofs.lemmas.List.{map-append}
@@ -18,7 +18,6 @@ use Rattle.gb_script.specs.declared.tree.Node.{Node}
 use Rattle.gb_script.specs.Tree.{head_of, parts_of, place_of}
 use Rattle.gb_meaning.specs.Written.{type_of as type_of_term}
 use Rattle.gb_typing.specs.Context.{Context}
-use Rattle.gb_typing.proofs.Variables.{variable_finite}
 use Rattle.gb_typing.specs.Scopes.{of_operator as in_operator, IsMeasured, AreMeasured, IsResult, IsDefined, AreVariableTypes}
 use Rattle.gb_names.specs.Binders.{of_type}
 use Rattle.gb_names.specs.Bindings.{bound_value}
@@ -28,10 +27,12 @@ use Rattle.gb_elab_prog.specs.declared.context.Bound.{Bound}
 use Rattle.gb_elab_prog.specs.Contexts.{taken, nothing_bound}
 use Rattle.gb_elab_prog.specs.Sizes.{small}
 use Rattle.gb_elab_prog.specs.Operators.{of_body, of_one_type, parameters, all_parameters, written, body, defined, undefined, operator_entry}
-use Rattle.gb_elab_laws.specs.Fitting.{IsFormType, IsFormTypeIf, AreTypes, AreDeclared, IsFitting}
+use Rattle.gb_elab_laws.specs.Fitting.{IsFormType, IsFormTypeIf, AreTypes, AreDeclared, IsFitting, of_no_module}
 use Rattle.gb_elab_laws.proofs.Given.{given_bind, given_is, if_refused}
 use Rattle.gb_elab_laws.proofs.Measured.{measured, measured_form}
+use Rattle.gb_elab_laws.proofs.MoreNames.{none_named}
 use Rattle.gb_elab_laws.proofs.Parameters.{types_in, parameters_bound}
+use Rattle.gb_elab_laws.proofs.Shapes.{with_globs, without_globs}
 use Rattle.gb_elab_laws.proofs.Types.{spelled_typed}
 use Rattle.gb_elab_laws.proofs.Forms.{elaborated_typed}
 
@@ -69,22 +70,22 @@ module _ (ds : scope.Declarations) (names : AreTypes ds) where
 
 -- The body of an operator.
 
-form_result : (t : Ty) → IsFormType false t → IsResult t
+form_result : (t : Ty) → IsFormType of_no_module t → IsResult t
 form_result ty.Int h = tt
 form_result ty.Real h = tt
-form_result (ty.Distr' p (more_of-Ty t end_of-Ty)) h = variable_finite t h.0
+form_result (ty.Distr' p (more_of-Ty t end_of-Ty)) h = with_globs of_no_module t h.0
 form_result ty.Unit h = h
 form_result ty.Bool h = h
 form_result (ty.Bits n) h = h
 form_result (ty.Mod n) h = h
 form_result (ty.Enumeration x n) h = h
-form_result (ty.Tuple' n ts) h = h
-form_result (ty.Opt' p x) h = h
-form_result (ty.Map' p k q x) h = h
+form_result (ty.Tuple' n ts) h = without_globs (ty.Tuple' n ts) h
+form_result (ty.Opt' p x) h = without_globs (ty.Opt' p x) h
+form_result (ty.Map' p k q x) h = without_globs (ty.Map' p k q x) h
 form_result (ty.Abstract x) h = h
 form_result (ty.Glob x) h = absurd (false≢true h)
 
-body_fits : (ds : scope.Declarations) (c : Context) (vs : List TypedName) → AreDeclared c.operator ds → AreMeasured (types_in vs) → IsFitting false (in_operator c (types_in vs)) (of_body ds) (reverse (map bound_value vs))
+body_fits : (ds : scope.Declarations) (c : Context) (vs : List TypedName) → AreDeclared c.operator ds → AreMeasured (types_in vs) → IsFitting of_no_module (in_operator c (types_in vs)) (of_body ds) (reverse (map bound_value vs))
 body_fits ds c vs names h = record {
   logical = λ i. refl;
   values = tt;
@@ -106,14 +107,14 @@ body_fits ds c vs names h = record {
 small_is : (t u : Term) → small t ≡ given u → t ≡ u
 small_is t u h = given_is t u (if_refused _ _ _ (given t) u h).1
 
-body_typed : (ds : scope.Declarations) (c : Context) (vs : List TypedName) (w : Option Ty) (t : Node) (f : Term) → AreDeclared c.operator ds → AreMeasured (types_in vs) → IsFormTypeIf false w → body ds vs w t ≡ given f →
+body_typed : (ds : scope.Declarations) (c : Context) (vs : List TypedName) (w : Option Ty) (t : Node) (f : Term) → AreDeclared c.operator ds → AreMeasured (types_in vs) → IsFormTypeIf of_no_module w → body ds vs w t ≡ given f →
     IsDefined c (record { params = types_in vs; body = f })
 unfolding body
 body_typed ds c vs w t f names h i e =
     let n = given_bind (elaborated t (of_body ds) (reverse (map bound_value vs)) w) _ f e in
     let g = elaborated_typed t (in_operator c (types_in vs)) (of_body ds) (reverse (map bound_value vs)) (body_fits ds c vs names h) w i n.0 n.1 in
     subst (λ z. IsDefined c (record { params = types_in vs; body = z })) (small_is n.0 f n.2)
-    (record { params = h; result = form_result (type_of_term n.0) g.type; typed = g.typed; plain = g.plain refl; apart = g.apart refl })
+    (record { params = h; result = form_result (type_of_term n.0) g.type; typed = g.typed; plain = g.plain refl; apart = none_named n.0 g.apart })
 
 -- an operator may be declared
 abbrev pub IsOperatorIn : Context → Entry → Type 0
@@ -122,11 +123,11 @@ IsOperatorIn c (entry.AbstractOperator o) = AreVariableTypes o.params × IsMeasu
 IsOperatorIn c _ = ⊥
 
 -- the type that is written for the result
-written_form : (ds : scope.Declarations) → AreTypes ds → (ts : List Node) (w : Option Ty) → written ds ts ≡ given w → IsFormTypeIf false w
-written_form ds names [] w e = subst (IsFormTypeIf false) (given_is None w e) tt
+written_form : (ds : scope.Declarations) → AreTypes ds → (ts : List Node) (w : Option Ty) → written ds ts ≡ given w → IsFormTypeIf of_no_module w
+written_form ds names [] w e = subst (IsFormTypeIf of_no_module) (given_is None w e) tt
 written_form ds names (t ∷ ts) w e =
     let u = given_bind (type_or_number ds t) (λ u. given (Some u)) w e in
-    subst (IsFormTypeIf false) (given_is (Some u.0) w u.2) (measured_form false u.0 (measured ds names t u.0 u.1)).1
+    subst (IsFormTypeIf of_no_module) (given_is (Some u.0) w u.2) (measured_form of_no_module u.0 (measured ds names t u.0 u.1)).1
 
 defined_typed : (ds : scope.Declarations) (c : Context) → AreDeclared c.operator ds → (gs r : List Node) (t : Node) (e : Entry) → defined ds gs r t ≡ given e → IsOperatorIn c e
 unfolding defined

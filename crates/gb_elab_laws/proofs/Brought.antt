@@ -58,14 +58,14 @@ use Rattle.gb_elab_mod.specs.Multiples.{hypothesis_at, multiples, position}
 use Rattle.gb_elab_mod.specs.Uses.{all_hinted, defined_operator, hypothesis, used, is_memory, memory_of}
 use Rattle.gb_elab_mod.specs.Taken.{new_name}
 use Rattle.gb_elab_prog.specs.Unbuilt.{absent}
-use Rattle.gb_elab_laws.specs.Fitting.{IsFormTypeIf, IsWanted}
+use Rattle.gb_elab_laws.specs.Fitting.{IsFormTypeIf, IsWanted, of_each_module}
 use Rattle.gb_elab_laws.proofs.Betweens.{of_transitive}
 use Rattle.gb_elab_laws.proofs.Contracts.{of_call}
 use Rattle.gb_elab_laws.proofs.Keeping.{of_entering}
 use Rattle.gb_elab_laws.proofs.Conditions.{of_by}
 use Rattle.gb_elab_laws.proofs.Transformings.{of_inlining, of_passing, of_placed}
 use Rattle.gb_elab_laws.proofs.Turning.{of_while}
-use Rattle.gb_elab_laws.proofs.Shapes.{finite_form}
+use Rattle.gb_elab_laws.proofs.Shapes.{value_form}
 use Rattle.gb_elab_laws.proofs.EventLaws.{of_event_law, of_splitting}
 use Rattle.gb_elab_laws.proofs.Given.{given_bind, given_is, if_unbuilt}
 use Rattle.gb_elab_laws.proofs.Fits.{goal_fits}
@@ -231,10 +231,10 @@ module _ (ds : scope.Declarations) (scoped : IsTypedScope (declared ds)) (q : Se
   quantified_finite u end_of-Term r w = absurd w
   quantified_finite u (more_of-Term a (more_of-Term b ts)) r w = absurd w
 
-  asked_finite : (f : Term) → IsConclusion here f → IsFormTypeIf true (asked_of (out-Term f).head)
+  asked_finite : (f : Term) → IsConclusion here f → IsFormTypeIf of_each_module (asked_of (out-Term f).head)
   asked_finite (Term' tt (more_of-Head (head.Some u) end_of-Head) n ts r) w =
-      subst (λ h. IsFormTypeIf true (asked_of h)) (sym (ap (λ x. x.head) (out_is (head.Some u) n ts r))) (finite_form true u (quantified_finite u ts r w.typed.0))
-  asked_finite (Term' tt (more_of-Head h end_of-Head) n ts r) w = subst (λ h. IsFormTypeIf true (asked_of h)) (sym (ap (λ x. x.head) (out_is h n ts r))) tt
+      subst (λ h. IsFormTypeIf of_each_module (asked_of h)) (sym (ap (λ x. x.head) (out_is (head.Some u) n ts r))) (value_form u (quantified_finite u ts r w.typed.0))
+  asked_finite (Term' tt (more_of-Head h end_of-Head) n ts r) w = subst (λ h. IsFormTypeIf of_each_module (asked_of h)) (sym (ap (λ x. x.head) (out_is h n ts r))) tt
 
   witness_typed : (h : Head) (e : Term) → IsTyped here e → IsWanted (asked_of h) (type_of e) → IsWitness here e h
   witness_typed (head.Some u) e w k = (w, k)

@@ -1,5 +1,5 @@
 -- What the typing of calls gives is typed.
-use Rattle.std.proofs.Common.{◌≡◌, ◌≤◌, ◌-◌, false, nat_lt, List, [], ◌∷◌, drop, length, Some, refl, ap, sym, ◌∙◌, subst, arith}
+use Rattle.std.proofs.Common.{◌≡◌, ◌≤◌, ◌-◌, nat_lt, List, [], ◌∷◌, drop, length, Some, refl, ap, sym, ◌∙◌, subst, arith}
 use Rattle.std.proofs.lemmas.Bool.{ltb-false}
 use Rattle.gb_core.specs.declared.place.Place.{Place}
 use Rattle.gb_core.specs.declared.refusal.Why.TheVariants.{TypeMismatch}
@@ -32,13 +32,14 @@ use Rattle.gb_typing.specs.Naming.{NoName, EachTermNames}
 use Rattle.gb_laws.specs.Programs.{Take}
 use Rattle.gb_typing.specs.Context.{Context, erased, of_program, procedure}
 use Rattle.gb_typing.specs.Programs.{AreArguments, IsCall, HaveVariableTypes}
-use Rattle.gb_elab_laws.specs.Fitting.{IsTypeOf}
+use Rattle.gb_elab_laws.specs.Fitting.{IsTypeOf, of_no_module}
 use Rattle.gb_elab_laws.proofs.Around.{IsAround}
 use Rattle.gb_elab_laws.proofs.Around as program_around
 use Rattle.gb_elab_laws.proofs.Forms.{elaborated_typed}
 use Rattle.gb_elab_laws.proofs.Given.{given_bind, given_is, if_given, if_refused}
 use Rattle.gb_elab_laws.proofs.Judged.{callee_is}
-use Rattle.gb_elab_laws.proofs.Shapes.{finite_form}
+use Rattle.gb_elab_laws.proofs.MoreNames.{none_named}
+use Rattle.gb_elab_laws.proofs.Shapes.{variable_form}
 use Rattle.gb_elab_laws.proofs.Spoken.{hidden_named}
 use mathlib.Core.Former.{Count}
 
@@ -67,11 +68,11 @@ module _ (ds : Declarations) (c : Context) (m : Module) (around : IsAround ds c 
       let u = given_bind (elaborated e here [] (Some q.ty)) _ us h in
       let ws = given_bind (arguments here qs es) (λ (ws : List Term). given (u.0 ∷ ws)) us u.2 in
       let fit = program_around.fits ds c m around vs typed in
-      let g = elaborated_typed e (of_program c vs) here [] fit (Some q.ty) (finite_form false q.ty f.0) u.0 u.1 in
+      let g = elaborated_typed e (of_program c vs) here [] fit (Some q.ty) (variable_form of_no_module q.ty f.0) u.0 u.1 in
       let k = arguments_typed qs es ws.0 f.1 (omega (arith, n)) ws.1 in
       let finite : IsFinite (type_of u.0) = subst IsFinite (sym g.wanted) (variable_finite q.ty f.0) in
       subst (λ us. ArePassed us (q ∷ qs)) (given_is (u.0 ∷ ws.0) us ws.2)
-      (((record { expression = program_around.expression ds c m around vs typed (Some q.ty) u.0 g; finite = finite }, g.wanted), k.0), (g.apart refl, k.1))
+      (((record { expression = program_around.expression ds c m around vs typed (Some q.ty) u.0 g; finite = finite }, g.wanted), k.0), (none_named u.0 g.apart, k.1))
 
   -- what is written takes the result
   results_taken : (ws : List Target) → program_around.AreTargets ds c m around vs typed ws → (t : Ty) (p : Place) (x : _) → takes ws t p ≡ given x → Take (erased c) vs (variables_of ws) t

@@ -56,7 +56,7 @@ some_is : {A : Type 0} (o : Option A) → is_some o ≡ true → (x : A) × (o �
 some_is (Some x) e = (x, refl)
 some_is None e = absurd (false≢true e)
 
-module _ (globs : Bool) (c : Context) (at : Environment) where
+module _ (globs : Name → Bool) (c : Context) (at : Environment) where
   abbrev l : Language
   l = at.language
 

@@ -45,7 +45,7 @@ use Rattle.gb_names.specs.Environment.{relational, unary}
 use Rattle.gb_elab.specs.Forms.{elaborated}
 use Rattle.gb_elab_mod.specs.Occurring.{occurring}
 use Rattle.gb_elab_mod.specs.OnPrograms.{acts, case_by, case_of_bodies, conseq_rule, coupling_rule, couplings, drawing_rule, cut_of, cut_rule, functions_of, of_bodies_rule, on_all, plain_rule, seq_rule, both_rule, chance_rule, judges_chance, kept_by, said_of_bodies, while_rule}
-use Rattle.gb_elab_mod.specs.Steps.{case_of_conclusion, case_rule, conclusion_rule, formed, sided_case_rule, step_given, typed_rule, asked_of, witness_rule}
+use Rattle.gb_elab_mod.specs.Steps.{case_of_conclusion, case_rule, conclusion_rule, formed, sided_case_rule, step_given, typed_rule, witness_rule}
 use Rattle.gb_elab_mod.specs.Multiples.{hypothesis_at, multiples, position}
 use Rattle.gb_elab_mod.specs.Uses.{all_hinted, defined_operator, hypothesis, used}
 use Rattle.gb_elab_mod.specs.Taken.{new_name}

@@ -25,7 +25,7 @@ use Rattle.gb_typing.specs.Formulas.{with_module}
 use Rattle.gb_typing.specs.Sequents.{of_sequent, with_modules}
 use Rattle.gb_typing.specs.Scopes.{operator_type, nothing, with_declared, with_each, context_of, is_declared, AreMeasured, AreVariableTypes, IsDeclared, AreTypedAfter, IsTypedScope}
 use Rattle.gb_typing.proofs.Operators.{declared_more, declared_last, other_name}
-use Rattle.gb_elab_laws.specs.Fitting.{IsFormType, AreTypes, AreConstants, IsUsable, AreDeclared}
+use Rattle.gb_elab_laws.specs.Fitting.{IsFormType, AreTypes, AreConstants, IsUsable, AreDeclared, of_no_module}
 use Rattle.gb_elab_laws.proofs.Given.{none_some, same_some, out_type}
 use Rattle.gb_elab_laws.proofs.Measured.{measured_form, variable_measured}
 use Rattle.gb_elab_laws.proofs.Globless.{GivesFree, defined_free, measured_free, result_form}
@@ -163,14 +163,14 @@ module _ (ds : scope.Declarations) (w : IsTypedScope (declared ds)) where
           subst (IsUsable ((context_of (declared ds)).operator n)) {x = made} (same_some made o h) (record {
             there = s.operator (record { params = p.params; result = type_of p.body }) refl ∙ ap (λ t. Some (typed_as p.params t)) (sym same);
             params = s.typed.params;
-            result = subst (IsFormType false) (sym same) (result_form (type_of p.body) s.typed.result free);
+            result = subst (IsFormType of_no_module) (sym same) (result_form (type_of p.body) s.typed.result free);
           })
       step (Some (entry.AbstractOperator p)) i h =
           let s = stands n (entry.AbstractOperator p) i in
           subst (IsUsable ((context_of (declared ds)).operator n)) (same_some p o h) (record {
             there = s.operator (record { params = p.params; result = p.result }) refl;
             params = all_measured p.params s.typed.0;
-            result = (measured_form false p.result s.typed.1).1;
+            result = (measured_form of_no_module p.result s.typed.1).1;
           })
       step _ i h = none_some o h
 

@@ -37,7 +37,7 @@ use Rattle.gb_typing.proofs.Calls.{each_call as each_typed}
 use Rattle.gb_typing.proofs.DeclaredProcedures.{calls_declared, module_if}
 use Rattle.gb_typing.proofs.LinkedProcedures.{linked_there}
 use Rattle.gb_typing.proofs.Located.{typed_in_scope}
-use Rattle.gb_typing.proofs.Standing.{Among, among, module_place, of_instance, standing, stands}
+use Rattle.gb_typing.proofs.Standing.{Among, among, module_place, of_instance, stands}
 use Rattle.gb_elab_laws.specs.Speaking.{IsFirmScope, ScopeSpeaks}
 use Rattle.gb_elab_laws.proofs.LinkedNames.{none_some}
 use Rattle.gb_elab_laws.proofs.Models.{no_section}

@@ -30,7 +30,7 @@ use Rattle.gb_typing.specs.Programs.{IsExpression, AreArguments, IsCall, IsState
 use mathlib.Core.Former.{Count}
 use Rattle.gb_elab_mod.specs.Occurring.{local, each_local, outcome_local, part_locals, read_locals, returned, row_locals, row_read, sampled as sampled_local, statement_locals, taking, occurring}
 use Rattle.gb_elab_mod.specs.OnPrograms.{outcomes, sampled, last_sampled}
-use Rattle.gb_elab_laws.specs.Fitting.{AreIn, IsTypeOf}
+use Rattle.gb_elab_laws.specs.Fitting.{AreIn, IsTypeOf, of_each_module}
 use Rattle.gb_elab_laws.proofs.Found.{all_with}
 use Rattle.gb_elab_laws.specs.Reading.{StandIn}
 use Rattle.gb_typing.specs.Samplings.{Sampling, behind, last_sampling, of_statement, of_type}
@@ -210,7 +210,7 @@ module _ (ls : List TypedName) where
 
   -- what occurs in a goal is read in the memory of a body
   pub occurring_in : (c : Context) (ds : scope.Declarations) → AreOfTheirTypes c ds → (s : Side) (p q : Term) (is : List Instr) → StandIn (Some ls) (read_locals p s) →
-      StandIn (Some ls) (read_locals q s) → IsBody c ls is → AreIn true (Some ls) (occurring ds (p ∷ q ∷ []) s is)
+      StandIn (Some ls) (read_locals q s) → IsBody c ls is → AreIn of_each_module (Some ls) (occurring ds (p ∷ q ∷ []) s is)
   occurring_in c ds known s p q is hp hq b =
       let k : StandIn (Some ls) (occurring ds (p ∷ q ∷ []) s is) = occurring_stand c ls ds known s p q is hp hq b.statements in
       record { memory = tt; there = standing_name _ k; finite = all_with _ (standing_finite (have_finite ls b.locals) _ k) }

@@ -29,7 +29,7 @@ use Rattle.gb_elab_laws.proofs.Typed.{Typed, combined, truth_given}
 use Rattle.gb_elab_laws.proofs.Leaves.{HasMemory, IsVariable, sided_typed, truth_typed}
 use Rattle.gb_elab_laws.proofs.Globs.{both_memories, same_globals_typed}
 
-module _ {globs : Bool} (c : Context) (at : Environment) (vs : List Binding) (fit : IsFitting globs c at vs) where
+module _ {globs : Name → Bool} (c : Context) (at : Environment) (vs : List Binding) (fit : IsFitting globs c at vs) where
   -- the equality of a variable of two programs
   equality_typed : (x : Name) (p : Place) (u : Term) → equality at vs x p ≡ given u → Typed globs c at.language ty.Bool u
   unfolding equality

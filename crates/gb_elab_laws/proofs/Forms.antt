@@ -25,7 +25,6 @@ use Rattle.gb_goal.specs.declared.scope.OperatorType.{OperatorType}
 use Rattle.gb_goal.specs.Scope.{Declarations, constant_named, operator_named}
 use Rattle.gb_terms.specs.declared.term.Head.TheVariants.{User}
 use Rattle.gb_terms.specs.Make.{node}
-use Rattle.gb_laws.specs.Finite.{IsFiniteWith}
 use Rattle.gb_typing.specs.Programs.{HaveVariableTypes}
 use Rattle.gb_laws.specs.Typing.{IsMemory}
 use Rattle.gb_laws.specs.Typing.Binder.{value, index}
@@ -63,13 +62,12 @@ use Rattle.gb_elab.specs.OneProcedure.{after_one, always, around, before_one, re
 use Rattle.gb_elab.specs.Probability.{before_call, chance, chance_here}
 use Rattle.gb_elab.specs.Globs.{Seen, bare_glob, both_whole, whole_alone}
 use Rattle.gb_elab.specs.Forms.{Arguing, Contracting, Typing, Meaning, Part, annotated, applied, applied_form, application, arguing, arguments, arguments_of, bare, bounded, bracketed, by_rule, call, comparing, contract, contracting, contract_of, declared, elaborated, equivalence, function, hoare, function_typing, last_arguments, meaning, meant, only, operand, operands, operation, operator_alone, probability, projection, quantified, read, simple, summed, typing, under, user_call, value_of, with_side}
-use Rattle.gb_elab_laws.specs.Fitting.{reads_globals, IsFormType, IsFormTypeIf, IsBoundName, IsUsable, AreReadable, IsFitting, IsGiven}
+use Rattle.gb_elab_laws.specs.Fitting.{reads_globals, IsFormType, IsFormTypeIf, IsBoundName, IsUsable, AreReadable, IsFitting, IsGiven, IsFiniteIn}
 use Rattle.gb_elab_laws.proofs.Given.{given_bind, given_is, if_allowed, if_given, if_none, if_refused, if_some, none_some, not_given, some_given}
 use Rattle.gb_elab_laws.proofs.Types.{no_distribution}
-use Rattle.gb_elab_laws.proofs.Shapes.{finite_form, variable_with, with_globs}
+use Rattle.gb_elab_laws.proofs.Shapes.{finite_form, variable_with, with_globs, form_with}
 use Rattle.gb_elab_laws.proofs.Tested.{counting}
 use Rattle.gb_elab_laws.proofs.Measured.{measured, measured_form}
-use Rattle.gb_elab_laws.proofs.Globless.{form_with}
 use Rattle.gb_elab_laws.proofs.Typed.{EachTyped, given_from, of_script, truth_given, wanted_given, of_given}
 use Rattle.gb_elab_laws.proofs.Globs.{read_typed, whole_alone_typed, whole_equation_typed}
 use Rattle.gb_elab_laws.proofs.Leaves.{named_typed, unit_typed}
@@ -85,7 +83,7 @@ use Rattle.gb_elab_laws.proofs.Asked.{Suits, binder_of, IsDomain, IsRule, IsAska
 use Rattle.gb_elab_laws.proofs.Askable.{askable}
 use Rattle.gb_elab_laws.proofs.Rules.{made_typed}
 
-module _ (globs : Bool) where
+module _ (globs : Name → Bool) where
   -- a typing gives typed terms, where the wanted type is one that a form may have
   abbrev pub GivesTyped : Typing → Type 0
   GivesTyped f = (c : Context) (at : Environment) (vs : List Binding) → IsFitting globs c at vs → (w : Option Ty) → IsFormTypeIf globs w → (u : Term) → f at vs w ≡ given u →
@@ -188,7 +186,7 @@ module _ (globs : Bool) where
           operands_typed ks (ts ++ t.0 ∷ []) (behind globs c at r w p [] ts t.0 h (place_of a.0, k.0, k.1, o)) u t.2
 
   -- a form that a rule makes
-  rule_typed : (r : Rule) → ((c : Context) (globs : Bool) → IsRule c globs r) → (ks : List Known) (p : Place) → GivesTyped (by_rule r (parts ks) p)
+  rule_typed : (r : Rule) → ((c : Context) (globs : Name → Bool) → IsRule c globs r) → (ks : List Known) (p : Place) → GivesTyped (by_rule r (parts ks) p)
   rule_typed r n ks p c at vs fit w f u e = operands_typed c at vs fit r (n c globs) p w f ks [] tt u e
 
   -- what is known of operators
@@ -228,7 +226,7 @@ module _ (globs : Bool) where
   operator_known head.Quotient x = tt
   operator_known _ x = tt
 
-  rule_known : (o : Operation) → IsOperation (Some o) → (b : Bool) (n : Node) (c : Context) (globs : Bool) → IsRule c globs (rule_for o b n)
+  rule_known : (o : Operation) → IsOperation (Some o) → (b : Bool) (n : Node) (c : Context) (globs : Name → Bool) → IsRule c globs (rule_for o b n)
   rule_known (operator.One o) h b n c globs = tt
   rule_known (operator.Two i) h b n c globs = h
   rule_known operator.Quotient h b n c globs = tt
@@ -318,7 +316,7 @@ module _ (globs : Bool) where
   summed_typed (a ∷ s ∷ b ∷ ks) p c at vs fit w f u e = cc
 
   -- built-in operators at arguments
-  rule_good : (k : BuiltIn) (n : ℕ) (r : Rule) → rule_of k n ≡ Some r → (c : Context) (globs : Bool) → IsRule c globs r
+  rule_good : (k : BuiltIn) (n : ℕ) (r : Rule) → rule_of k n ≡ Some r → (c : Context) (globs : Name → Bool) → IsRule c globs r
   rule_good known.Some n r e c globs = let k = if_some (n == 1) (rule.One prefix.Some) r e in subst (IsRule c globs) k.1 tt
   rule_good known.Oget n r e c globs = let k = if_some (n == 1) (rule.One prefix.Oget) r e in subst (IsRule c globs) k.1 tt
   rule_good known.Dunit n r e c globs = let k = if_some (n == 1) (rule.One prefix.Dunit) r e in subst (IsRule c globs) k.1 tt
@@ -507,11 +505,11 @@ module _ (globs : Bool) where
   form_parts h x ks p c at vs fit w f u e = operation_typed (operator_of h x) (operator_known h x) ks p c at vs fit w f u e
 
   -- the name of a function's variable
-  domain_name : (globs : Bool) (d : Domain) → IsDomain globs d → (x : Name) → IsBoundName globs (binder_of d) (value_named x (type_in d))
+  domain_name : (globs : Name → Bool) (d : Domain) → IsDomain globs d → (x : Name) → IsBoundName globs (binder_of d) (value_named x (type_in d))
   domain_name globs (Exactly t) h x = ((no_distribution t (with_globs globs t h), refl), finite_form globs t h)
   domain_name globs (Below n) h x = (omega arith, h)
 
-  written_name : (ds : Declarations) (globs : Bool) (d : Domain) → IsDomain globs d → (x : Name) (s : Node) (t : Ty) → written_as ds d s ≡ given t → IsBoundName globs (binder_of d) (value_named x t)
+  written_name : (ds : Declarations) (globs : Name → Bool) (d : Domain) → IsDomain globs d → (x : Name) (s : Node) (t : Ty) → written_as ds d s ≡ given t → IsBoundName globs (binder_of d) (value_named x t)
   written_name ds globs (Exactly v) h x s t e =
       let k = given_bind (type_of ds s) (λ z. if ty_eq z v then given z else refused TypeMismatch (place_of s)) t e in
       let j = if_given (ty_eq k.0 v) k.0 TypeMismatch (place_of s) t k.2 in
@@ -596,11 +594,11 @@ module _ (globs : Bool) where
   unfolding meant
   meant_typed = by_parts meaning IsTyped all_parts
 
-pub elaborated_typed : {globs : Bool} (t : Node) (c : Context) (at : Environment) (vs : List Binding) → IsFitting globs c at vs → (w : Option Ty) → IsFormTypeIf globs w → (u : Term) →
+pub elaborated_typed : {globs : Name → Bool} (t : Node) (c : Context) (at : Environment) (vs : List Binding) → IsFitting globs c at vs → (w : Option Ty) → IsFormTypeIf globs w → (u : Term) →
     elaborated t at vs w ≡ given u → IsGiven globs c at.language w u
 elaborated_typed {globs} t = (meant_typed globs t).0
 
 -- functions from a type of values
-pub function_typed : {globs : Bool} (t : Node) (c : Context) (at : Environment) → IsFitting globs c at [] → (a b : Ty) → IsFiniteWith globs a → IsFormType globs b → (u : Term) →
+pub function_typed : {globs : Name → Bool} (t : Node) (c : Context) (at : Environment) → IsFitting globs c at [] → (a b : Ty) → IsFiniteIn globs a → IsFormType globs b → (u : Term) →
     function t at a b ≡ given u → IsGiven globs (within c (value a) None) at.language (Some b) u
 function_typed {globs} t c at fit a b h k u e = (meant_typed globs t).1 c at [] fit (Exactly a) h (Some b) k u e

@@ -2,7 +2,7 @@
 use Rattle.std.proofs.Common.{◌≡◌, ℕ, suc, Bool, true, false, if◌then◌else◌, List, [], ◌∷◌, map, get_or, Some, bytes_eq, refl, ap, sym, ◌∙◌, subst}
 use Rattle.std.proofs.lemmas.Slice.Eq.{bytes_eq-Decides}
 use Rattle.gb_terms.specs.declared.decl.TypedName.{TypedName}
-use Rattle.gb_laws.specs.Finite.{IsFinite, IsFiniteWith}
+use Rattle.gb_laws.specs.Finite.{IsFinite}
 use Rattle.gb_laws.specs.Operators.{item}
 use Rattle.gb_laws.specs.Typing.{Binder}
 use Rattle.gb_laws.specs.Typing.Binder.{program}
@@ -13,13 +13,14 @@ use Rattle.gb_names.specs.Bindings.{binders_inside, innermost}
 use Rattle.gb_names.specs.Names.{first_named, number_before}
 use Rattle.gb_laws.specs.Programs.{HaveFiniteTypes}
 use Rattle.gb_typing.proofs.Globals.{name_test}
-use Rattle.gb_elab_laws.specs.Fitting.{AllFiniteWith, AreBound, IsBoundName}
+use Rattle.gb_elab_laws.specs.Fitting.{AllFiniteIn, AreBound, IsBoundName, IsFiniteIn, of_each_module}
 use Rattle.gb_elab_laws.proofs.Given.{none_some, same_some}
+use Rattle.gb_elab_laws.proofs.Shapes.{finite_each}
 
 -- types of values, with those of globals
-pub all_with : (vs : List TypedName) → HaveFiniteTypes vs → AllFiniteWith true vs
+pub all_with : (vs : List TypedName) → HaveFiniteTypes vs → AllFiniteIn of_each_module vs
 all_with [] h = tt
-all_with (v ∷ vs) h = (h.0, all_with vs h.1)
+all_with (v ∷ vs) h = (finite_each v.ty h.0, all_with vs h.1)
 
 -- what a name that is found stands for
 pub record Found (vs : List TypedName) (x : Name) (v : TypedName) : Type 0 where
@@ -27,7 +28,7 @@ pub record Found (vs : List TypedName) (x : Name) (v : TypedName) : Type 0 where
   pub item : item (map (λ (l : TypedName). l.ty) vs) (number_before vs x) ≡ Some v.ty
   pub frame : local_type vs x ≡ Some v.ty
   pub finite : HaveFiniteTypes vs → IsFinite v.ty
-  pub finite_with : (globs : Bool) → AllFiniteWith globs vs → IsFiniteWith globs v.ty
+  pub finite_with : (globs : Name → Bool) → AllFiniteIn globs vs → IsFiniteIn globs v.ty
 
 pub found : (vs : List TypedName) (x : Name) (v : TypedName) → first_named vs x ≡ Some v → Found vs x v
 found [] x v e = none_some v e
@@ -44,7 +45,7 @@ found (l ∷ ls) x v e = step (bytes_eq l.name x) refl (found ls x v) e
           item = ap (item (map (λ (z : TypedName). z.ty) (l ∷ ls))) n ∙ ap (λ (z : TypedName). Some z.ty) e;
           frame = ap (λ (b : Bool). if b then Some l.ty else local_type ls x) (name_test x l.name ∙ k) ∙ ap (λ (z : TypedName). Some z.ty) e;
           finite = λ h. subst (λ (z : TypedName). IsFinite z.ty) e h.0;
-          finite_with = λ globs h. subst (λ (z : TypedName). IsFiniteWith globs z.ty) e h.0;
+          finite_with = λ globs h. subst (λ (z : TypedName). IsFiniteIn globs z.ty) e h.0;
         }
 
     tail : bytes_eq l.name x ≡ false → Found ls x v → Found (l ∷ ls) x v
@@ -63,7 +64,7 @@ found (l ∷ ls) x v e = step (bytes_eq l.name x) refl (found ls x v) e
     step false k f e = tail k (f e)
 
 -- what is bound under a name stands among the binders
-pub found_bound : (globs : Bool) (vs : List Binding) (x : Name) (v : Binding) → innermost vs x ≡ Some v → (bs : List Binder) → AreBound globs bs vs →
+pub found_bound : (globs : Name → Bool) (vs : List Binding) (x : Name) (v : Binding) → innermost vs x ≡ Some v → (bs : List Binder) → AreBound globs bs vs →
     IsBoundName globs (get_or bs (binders_inside vs x) program) v
 found_bound globs [] x v e bs k = none_some v e
 found_bound globs (w ∷ ws) x v e [] k = absurd k

@@ -34,8 +34,8 @@ use Rattle.gb_typing.specs.Context.{Context, erased, within}
 use Rattle.gb_terms.specs.declared.decl.TypedName.{TypedName}
 use Rattle.gb_typing.specs.Typing.{first, middle, last, IsTyped, AreTyped}
 use Rattle.gb_typing.specs.Scopes.{of_operator, IsMeasured, AreMeasured, IsResult}
-use Rattle.gb_typing.proofs.Variables.{variable_finite}
-use Rattle.gb_elab_laws.specs.Fitting.{IsFormType}
+use Rattle.gb_elab_laws.specs.Fitting.{IsFormType, of_no_module}
+use Rattle.gb_elab_laws.proofs.Shapes.{variable_with}
 use Rattle.gb_elab_laws.proofs.Given.{none_some}
 
 -- a type in which no type of a module's globals stands
@@ -287,8 +287,8 @@ mutual
   finite_variables (more_of-Ty t ts) w k = (finite_variable t w.0 k.0, finite_variables ts w.1 k.1)
 
 -- so its result has a type of forms without types of those
-pub result_form : (t : Ty) → IsResult t → IsFree t → IsFormType false t
-result_form (ty.Distr' p (more_of-Ty x end_of-Ty)) w k = (finite_variable x w k.0, tt)
+pub result_form : (t : Ty) → IsResult t → IsFree t → IsFormType of_no_module t
+result_form (ty.Distr' p (more_of-Ty x end_of-Ty)) w k = (variable_with of_no_module x (finite_variable x w k.0), tt)
 result_form ty.Int w k = tt
 result_form ty.Real w k = tt
 result_form ty.Unit w k = w
@@ -296,32 +296,8 @@ result_form ty.Bool w k = w
 result_form (ty.Bits n) w k = w
 result_form (ty.Mod n) w k = w
 result_form (ty.Enumeration x n) w k = w
-result_form (ty.Tuple' n ts) w k = w
-result_form (ty.Opt' p x) w k = w
-result_form (ty.Map' p a q x) w k = w
+result_form (ty.Tuple' n ts) w k = variable_with of_no_module (ty.Tuple' n ts) w
+result_form (ty.Opt' p x) w k = variable_with of_no_module (ty.Opt' p x) w
+result_form (ty.Map' p a q x) w k = variable_with of_no_module (ty.Map' p a q x) w
 result_form (ty.Abstract x) w k = w
 result_form (ty.Glob x) w k = absurd k
-
--- a type of forms without types of globals is one of forms
-row_widened : {n : Count} (ts : Row_of-Ty n) → AreFiniteWith false ts → AreFiniteWith true ts
-row_widened end_of-Ty h = tt
-row_widened (more_of-Ty t ts) h = (variable_finite t h.0, row_widened ts h.1)
-
-form_widened : (t : Ty) → IsFormType false t → IsFormType true t
-form_widened ty.Int h = tt
-form_widened ty.Real h = tt
-form_widened (ty.Distr' p x) h = row_widened x h
-form_widened ty.Unit h = h
-form_widened ty.Bool h = h
-form_widened (ty.Bits n) h = h
-form_widened (ty.Mod n) h = h
-form_widened (ty.Enumeration x n) h = h
-form_widened (ty.Tuple' n ts) h = row_widened ts h
-form_widened (ty.Opt' p x) h = row_widened x h
-form_widened (ty.Map' p k q x) h = (row_widened k h.0, row_widened x h.1)
-form_widened (ty.Abstract x) h = h
-form_widened (ty.Glob x) h = refl
-
-pub form_with : (globs : Bool) (t : Ty) → IsFormType false t → IsFormType globs t
-form_with true t h = form_widened t h
-form_with false t h = h

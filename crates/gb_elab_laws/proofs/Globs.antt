@@ -44,13 +44,13 @@ use Rattle.gb_elab_laws.proofs.Typed.{Typed, IsSome, combined, leaf, truth_given
 use Rattle.gb_elab_laws.proofs.Types.{no_distribution}
 
 -- where two programs are around, both memories are there
-pub both_memories : (globs reads : Bool) (c : Context) (vars : Variables) → AreReadable globs reads c vars → is_none (sides_of vars side.Left) ≡ false →
+pub both_memories : (globs : Name → Bool) (reads : Bool) (c : Context) (vars : Variables) → AreReadable globs reads c vars → is_none (sides_of vars side.Left) ≡ false →
     HasMemory reads c side.Left × HasMemory reads c side.Right
 both_memories globs reads c (Sides ls rs) h e = (record { side = tt; frame = h.1.memory; whole = h.0 }, record { side = tt; frame = h.2.memory; whole = h.0 })
 both_memories globs reads c (Own ls) h e = cc
 both_memories globs reads c Absent h e = cc
 
-module _ {globs : Bool} (c : Context) (at : Environment) (vs : List Binding) (fit : IsFitting globs c at vs) where
+module _ {globs : Name → Bool} (c : Context) (at : Environment) (vs : List Binding) (fit : IsFitting globs c at vs) where
   abbrev Has : Side → Type 0
   Has s = HasMemory (reads_globals at.language) c s
 

@@ -10,7 +10,7 @@ use Rattle.gb_goal.specs.Interfaces as known
 use Rattle.gb_goal.specs.Interfaces.{ProcedureType, of_declared, of_inner, of_module, of_type, procedure_types}
 use Rattle.gb_goal.specs.declared.module_type.ModuleType.{ModuleType}
 use Rattle.gb_meaning.specs.Names.{Name}
-use Rattle.gb_meaning.specs.Declared.{Declarations, declared}
+use Rattle.gb_meaning.specs.Declared.{declared}
 use Rattle.gb_typing.specs.Context.{Context, procedure}
 use Rattle.gb_typing.specs.Modules.{Modules, functor_type, interface_at, of_functor_type, procedure_type, with_interface}
 use Rattle.gb_typing.specs.Scopes.{interface_with, in_module, with_params, context_of, IsTypedScope}

@@ -5,6 +5,7 @@ use Rattle.gb_core.specs.declared.place.Place.{Place}
 use Rattle.gb_core.specs.declared.ty.Ty.TheVariants as ty
 use Rattle.gb_terms.specs.declared.decl.Param.{Param}
 use Rattle.gb_terms.specs.declared.decl.TypedName.{TypedName}
+use Rattle.gb_meaning.specs.Names.{Name}
 use Rattle.gb_names.specs.declared.bindings.Binding.{Binding}
 use Rattle.gb_terms.specs.declared.module.ProcRef.{ProcRef}
 use Rattle.gb_terms.specs.declared.term.Term.{Term}
@@ -121,13 +122,13 @@ module _ (at : Environment) (bound : List Binding) where
   one_is f p n h = let a = given_bind (about_procedure (head_of f) p) _ n h in named_is (head_of f) (parts_of f) (place_of f) n a.2
 
 -- the parameters of a procedure are read before it, and its result after it
-pub params_in : {globs : Bool} (t : Option ProcedureType) (f : ProcedureType) → IsTypeOf t f → AreIn globs (typed.before t) f.params
+pub params_in : {globs : Name → Bool} (t : Option ProcedureType) (f : ProcedureType) → IsTypeOf t f → AreIn globs (typed.before t) f.params
 params_in {globs} t f w = record { memory = subst (λ z. IsFrame (typed.before z)) (sym w.there) tt; there = λ x u e. subst (λ z. local_in (typed.before z) x ≡ Some u) (sym w.there) e; finite = variables_with globs f.params w.params }
 
-pub result_in : {globs : Bool} (t : Option ProcedureType) (f : ProcedureType) → IsTypeOf t f → AreIn globs (typed.after t) (result_of f)
+pub result_in : {globs : Name → Bool} (t : Option ProcedureType) (f : ProcedureType) → IsTypeOf t f → AreIn globs (typed.after t) (result_of f)
 result_in {globs} t f w = record { memory = subst (λ z. IsFrame (typed.after z)) (sym w.there) tt; there = λ x u e. subst (λ z. local_in (typed.after z) x ≡ Some u) (sym w.there) e; finite = (variable_with globs f.result w.result, tt) }
 
-module _ {globs : Bool} (c : Context) (at : Environment) (vs : List Binding) (fit : IsFitting globs c at vs) (judges : has_judgments at.language ≡ true) where
+module _ {globs : Name → Bool} (c : Context) (at : Environment) (vs : List Binding) (fit : IsFitting globs c at vs) (judges : has_judgments at.language ≡ true) where
   -- conditions on two programs over these variables
   pub condition : (F G : Frame) (ls rs : List TypedName) → AreIn globs F ls → AreIn globs G rs → IsFitting globs (with_sides c F G) (reading (in_judgments at.memories) (relational at.declared at.sequent ls rs)) vs
   condition F G ls rs h k = record {
@@ -176,6 +177,6 @@ module _ {globs : Bool} (c : Context) (at : Environment) (vs : List Binding) (fi
           (subst IsThere (sym left.there) tt, subst IsThere (sym right.there) tt) []
           (record { typed = x.typed; written = x.wanted }, record { typed = y.typed; written = y.wanted });
       type = tt;
-      apart = λ k. apart_node (Equiv (procedure_subject f) (procedure_subject g)) (p ∷ q ∷ []) ty.Bool tt (x.apart k, (y.apart k, tt));
+      apart = apart_node globs (Equiv (procedure_subject f) (procedure_subject g)) (p ∷ q ∷ []) ty.Bool tt (x.apart, (y.apart, tt));
       plain = λ k. absurd (false≢true (sym k ∙ judges));
     }

@@ -44,7 +44,7 @@ use Rattle.gb_typing.specs.Context.{Frame, Context, erased, frame_of, local_in}
 use Rattle.gb_typing.specs.Typing.{IsFrame}
 use Rattle.gb_typing.proofs.Literals.{bool_literal}
 use Rattle.gb_typing.proofs.Variables.{variable_finite}
-use Rattle.gb_elab_laws.specs.Fitting.{reads_globals, AllFiniteWith, IsBoundTo, AreIn, AreReadable, HasGlobals, HasGlobalsIf, IsFitting}
+use Rattle.gb_elab_laws.specs.Fitting.{reads_globals, AllFiniteIn, IsBoundTo, AreIn, AreReadable, HasGlobals, HasGlobalsIf, IsFitting}
 use Rattle.gb_elab_laws.proofs.Given.{given_bind, given_is, if_allowed, if_refused, counted_is, none_some, same_some}
 use Rattle.gb_elab_laws.proofs.Literals.{unit_literal}
 use Rattle.gb_elab_laws.proofs.Shapes.{with_globs, finite_form, variable_with}
@@ -62,18 +62,18 @@ if_there true o y e = none_some y e
 if_there false o y e = e
 
 -- variables are read in a memory of these locals
-record IsRead (globs : Bool) (f : Frame) (vs : List TypedName) : Type 0 where
+record IsRead (globs : Name → Bool) (f : Frame) (vs : List TypedName) : Type 0 where
   there : (x : Name) (t : Ty) → local_type vs x ≡ Some t → local_in f x ≡ Some t
-  values : AllFiniteWith globs vs
+  values : AllFiniteIn globs vs
 
-none_read : (globs : Bool) (f : Frame) → IsRead globs f []
+none_read : (globs : Name → Bool) (f : Frame) → IsRead globs f []
 none_read globs f = record { there = λ x t e. none_some t e; values = tt }
 
-all_read : (globs : Bool) (f : Frame) (vs : List TypedName) → AreIn globs f vs → IsRead globs f vs
+all_read : (globs : Name → Bool) (f : Frame) (vs : List TypedName) → AreIn globs f vs → IsRead globs f vs
 all_read globs f vs h = record { there = h.there; values = h.finite }
 
 -- the variables of the program around are read in the own memory
-own_there : (globs reads : Bool) (c : Context) (vars : Variables) → AreReadable globs reads c vars → IsRead globs c.own (own_of vars)
+own_there : (globs : Name → Bool) (reads : Bool) (c : Context) (vars : Variables) → AreReadable globs reads c vars → IsRead globs c.own (own_of vars)
 own_there globs reads c Absent h = none_read globs c.own
 own_there globs reads c (Own ls) h = all_read globs c.own ls h.1
 own_there globs reads c (Sides ls rs) h = none_read globs c.own
@@ -97,22 +97,22 @@ pub record HasMemory (reads : Bool) (c : Context) (s : Side) : Type 0 where
   pub frame : IsFrame (frame_of c s)
   pub whole : reads ≡ true
 
-pub own_memory : (globs reads : Bool) (c : Context) (vars : Variables) → has_own vars ≡ true → AreReadable globs reads c vars → HasMemory reads c side.Own
+pub own_memory : (globs : Name → Bool) (reads : Bool) (c : Context) (vars : Variables) → has_own vars ≡ true → AreReadable globs reads c vars → HasMemory reads c side.Own
 own_memory globs reads c (Own ls) e h = record { side = tt; frame = h.1.memory; whole = h.0 }
 own_memory globs reads c Absent e h = absurd (false≢true e)
 own_memory globs reads c (Sides ls rs) e h = absurd (false≢true e)
 
 -- the variables of a side are read in its memory
-pub record OnSide (globs reads : Bool) (c : Context) (s : Side) (ls : List TypedName) : Type 0 where
+pub record OnSide (globs : Name → Bool) (reads : Bool) (c : Context) (s : Side) (ls : List TypedName) : Type 0 where
   pub memory : HasMemory reads c s
   read : IsRead globs (frame_of c s) ls
 
-pub side_there : (globs reads : Bool) (c : Context) (vars : Variables) (s : Side) (ls : List TypedName) → AreReadable globs reads c vars → sides_of vars s ≡ Some ls → OnSide globs reads c s ls
+pub side_there : (globs : Name → Bool) (reads : Bool) (c : Context) (vars : Variables) (s : Side) (ls : List TypedName) → AreReadable globs reads c vars → sides_of vars s ≡ Some ls → OnSide globs reads c s ls
 side_there globs reads c (Sides ls rs) side.Left ms h e = record { memory = record { side = tt; frame = h.1.memory; whole = h.0 }; read = subst (IsRead globs c.left) (same_some ls ms e) (all_read globs c.left ls h.1) }
 side_there globs reads c (Sides ls rs) side.Right ms h e = record { memory = record { side = tt; frame = h.2.memory; whole = h.0 }; read = subst (IsRead globs c.right) (same_some rs ms e) (all_read globs c.right rs h.2) }
 side_there globs reads c _ s ms h e = none_some ms e
 
-module _ {globs : Bool} (c : Context) (at : Environment) (vs : List Binding) (fit : IsFitting globs c at vs) where
+module _ {globs : Name → Bool} (c : Context) (at : Environment) (vs : List Binding) (fit : IsFitting globs c at vs) where
   -- a typed term of a type of values
   abbrev pub IsVariable : Term → Type 0
   IsVariable t = (a : Ty) × IsFinite a × Typed globs c at.language a t

@@ -105,3 +105,4 @@ pub mod Events
 pub mod Conditioned
 pub mod Contracted
 pub mod Turning
+pub mod NamesGiven

@@ -10,6 +10,7 @@ use Rattle.gb_goal.specs.Scope.{Declarations}
 use Rattle.gb_script.specs.declared.head.Head.{Head}
 use Rattle.gb_script.specs.declared.head.Head.TheVariants as head
 use Rattle.gb_script.specs.declared.tree.Node.{Node}
+use Rattle.gb_meaning.specs.Names.{Name}
 use Rattle.gb_laws.specs.Finite.{IsVariableType}
 use Rattle.gb_laws.specs.Operators.{IsNoDistribution}
 use Rattle.gb_typing.specs.Scopes.{IsMeasured, AreMeasured}
@@ -71,7 +72,7 @@ measured ds names t u h =
     (map_or_given given (number_type t) (type_of ds t) u h)
 
 -- such a type is one of forms, and none of distributions
-pub measured_form : (globs : Bool) (t : Ty) → IsMeasured t → IsNoDistribution t × IsFormType globs t
+pub measured_form : (globs : Name → Bool) (t : Ty) → IsMeasured t → IsNoDistribution t × IsFormType globs t
 measured_form globs ty.Int h = (tt, tt)
 measured_form globs ty.Real h = (tt, tt)
 measured_form globs (ty.Distr' p x) h = absurd h
@@ -87,7 +88,7 @@ measured_form globs (ty.Abstract x) h = (tt, tt)
 measured_form globs (ty.Glob x) h = absurd (false≢true h)
 
 -- the parameter of an operator at a place
-pub parameter_form : (globs : Bool) (us : List Ty) (i : ℕ) (t : Ty) → AreMeasured us → slice_get us i ≡ Some t → IsFormType globs t
+pub parameter_form : (globs : Name → Bool) (us : List Ty) (i : ℕ) (t : Ty) → AreMeasured us → slice_get us i ≡ Some t → IsFormType globs t
 parameter_form globs [] i t h e = none_some t e
 parameter_form globs (u ∷ us) zero t h e = subst (IsFormType globs) (same_some u t e) (measured_form globs u h.0).1
 parameter_form globs (u ∷ us) (suc i) t h e = parameter_form globs us i t h.1 e

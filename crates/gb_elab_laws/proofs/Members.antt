@@ -33,6 +33,7 @@ use Rattle.gb_typing.specs.Scopes.{procedure_types, interface_with, in_module, c
 use Rattle.gb_typing.specs.Modules.{with_interface}
 use Rattle.gb_typing.proofs.Globals.{name_test, or_false}
 use Rattle.gb_typing.specs.Naming.{NoName}
+use Rattle.gb_elab_laws.specs.Fitting.{of_no_module}
 use Rattle.gb_elab_laws.specs.Speaking.{ProceduresSpeak}
 use Rattle.gb_elab_laws.proofs.Given.{given_bind, given_is, if_absent, if_refused, none_of, none_some}
 use Rattle.gb_elab_laws.proofs.Declared.{declared_in}
@@ -45,6 +46,7 @@ use Rattle.gb_elab_laws.proofs.Taken.{empty_bare, parameters_bare, parameters_ta
 use Rattle.gb_elab_laws.proofs.Programs.{have_both, procedure_typed}
 use Rattle.gb_elab_laws.proofs.Around.{IsAround}
 use Rattle.gb_elab_laws.proofs.Quantified.{variables_with}
+use Rattle.gb_elab_laws.proofs.Shapes.{without_globs}
 use Rattle.gb_elab_laws.proofs.Spoken.{procedures_behind}
 use Rattle.gb_elab_laws.proofs.Types.{spelled_typed}
 
@@ -209,7 +211,7 @@ module _ (ds : Declarations) (scoped : IsTypedScope (declarations ds)) (m : Modu
         let there : local_type m.globals v.name ≡ Some v.ty =
         ap (λ ls. local_type ls v.name) (sym f.globals) ∙ front_local k.globals f.more v.name v.ty (ap (local_type k.globals) s.name ∙ s.frame) in (
           ap (λ (b : Bool). if b then local_type m.globals v.name else c.global k.name v.name) ((bytes_eq-Decides k.name m.name).1 f.name) ∙ there,
-          s.finite_with false (variables_with false k.globals part.types),
+          without_globs v.ty (s.finite_with of_no_module (variables_with of_no_module k.globals part.types)),
         );
     procedures = inside_typed ds scoped m k f.name f.params (procedures_variable c m [] k.procs part.procs);
   }

@@ -1,5 +1,6 @@
 -- What speaks of the globals of modules in P speaks of those of modules in R, where P is within R.
-use Rattle.std.proofs.Common.{◌↔◌, List, [], ◌∷◌, ◌++◌}
+use Rattle.std.proofs.Common.{◌≡◌, ◌↔◌, List, [], ◌∷◌, ◌++◌, subst}
+use Rattle.std.proofs.lemmas.Bool.{false≢true}
 use Rattle.gb_core.specs.declared.ty.Ty.{Ty, Row_of-Ty, end_of-Ty, more_of-Ty}
 use Rattle.gb_core.specs.declared.ty.Ty.TheVariants as ty
 use Rattle.gb_core.specs.declared.var.Var.{Var}
@@ -20,9 +21,11 @@ use Rattle.gb_meaning.specs.Names.{Name}
 use Rattle.gb_meaning.specs.Declared.{Declarations, Declaration, declared, concrete_module}
 use Rattle.gb_meaning.specs.Globs.{EachGlob, EachGlobIn}
 use Rattle.gb_meaning.specs.Naming.{AnyName}
-use Rattle.gb_typing.specs.Naming.{EachGlobOf, VariableNames, HeadNames, TermNames, TermsName}
+use Rattle.gb_typing.specs.Naming.{IsAmong, NoName, EachGlobOf, VariableNames, HeadNames, TermNames, TermsName}
 use Rattle.gb_typing.proofs.KeptNames.{each-name}
 use Rattle.gb_elab_laws.specs.Speaking.{StatementSpeaks, StatementsSpeak, BodySpeaks, ProceduresSpeak, DeclarationSpeaks, ScopeSpeaks, SubjectSpeaks, HeadSpeaks, BodiesSpeak, HypsSpeak, GoalSpeaks}
+use Rattle.gb_elab_laws.specs.Fitting.{Allows, of_no_module}
+use Rattle.gb_arguments.specs.Arguments.{names_of}
 use mathlib.Core.Former.{Count}
 
 module _ (P R : Name → Type 0) (f : (n : Name) → P n → R n) where
@@ -115,6 +118,14 @@ module _ (P R : Name → Type 0) (f : (n : Name) → P n → R n) where
     conclusion = more_term q.conclusion k.conclusion;
     bodies = more_bodies q.conclusion k.bodies;
   }
+
+-- a term that may speak of the globals of none
+pub none_named : (t : Term) → TermNames (Allows of_no_module) AnyName t → TermNames NoName AnyName t
+none_named t k = more_term (Allows of_no_module) NoName (λ n e. false≢true e) t k
+
+-- a goal that speaks of the globals of the modules that it binds, where it binds none
+pub alone_speaks : (q : Sequent) → q.modules ≡ [] → GoalSpeaks (IsAmong (names_of q.modules)) q → GoalSpeaks NoName q
+alone_speaks q none k = more_goal (IsAmong (names_of q.modules)) NoName (λ n e. false≢true (subst (λ bs. IsAmong (names_of bs) n) none e)) q k
 
 pub parts : (P : Name → Type 0) (ds es : scope.Declarations) → ScopeSpeaks P (declared (ds ++ es)) ↔ ScopeSpeaks P (declared ds) × ScopeSpeaks P (declared es)
 parts P [] es = (λ k. (tt, k), λ k. k.1)

@@ -22,14 +22,14 @@ use Rattle.gb_meaning.specs.Written.{type_of}
 use Rattle.gb_meaning.specs.Declared.{Declarations, Declaration, abstract_type, abbreviation, operator, abstract_operator, module_type, concrete_module, abstract_module, axiom_of, lemma, terminating}
 use Rattle.gb_meaning.specs.Footprints.{body_touched, head_variables, touched, touched_in, variables, variables_in}
 use Rattle.gb_meaning.specs.Modules.{Procedures}
-use Rattle.gb_meaning.specs.Naming.{AnyName, EachCallOf, EachName}
+use Rattle.gb_meaning.specs.Naming.{AnyName, EachName}
 use Rattle.gb_typing.specs.Added.{CodeNames, CodesName, ModulesName, param_names}
 use Rattle.gb_typing.specs.Context.{Context, procedure}
 use Rattle.gb_typing.specs.Formulas.{IsKnown}
 use Rattle.gb_typing.specs.Modules.{Modules, ProcedureType, functor_type, of_functor_type, with_interface}
 use Rattle.gb_typing.specs.Naming.{HeadNames, IsAmong, TermNames, TermsName, VariablesName}
 use Rattle.gb_typing.specs.Programs.{AreStatements, EachStatement, IsProcedure, IsStatement, locals_of, type_of_procedure}
-use Rattle.gb_typing.specs.Scopes.{AreProcedures, AreTypedAfter, in_module, interface_with, is_declared, with_declared, with_params}
+use Rattle.gb_typing.specs.Scopes.{AreProcedures, AreTypedAfter, in_module, interface_with, is_declared, with_params}
 use Rattle.gb_typing.specs.Typing.{IsThere}
 use Rattle.gb_typing.proofs.Calls.{each_call}
 use Rattle.gb_typing.proofs.KeptNames.{each-name}

@@ -4,6 +4,7 @@ use Rattle.std.proofs.Common.{◌≡◌, pos, true, List, [], ◌∷◌, Some, N
 use Rattle.gb_core.specs.declared.place.Place.{Place}
 use Rattle.gb_core.specs.declared.ty.Ty.TheVariants as ty
 use Rattle.gb_terms.specs.declared.decl.TypedName.{TypedName}
+use Rattle.gb_meaning.specs.Names.{Name}
 use Rattle.gb_names.specs.declared.bindings.Binding.{Binding}
 use Rattle.gb_terms.specs.declared.module.ProcRef.{ProcRef}
 use Rattle.gb_terms.specs.declared.op.Op.TheVariants as op
@@ -32,18 +33,18 @@ use Rattle.gb_elab_laws.proofs.Remembered.{remembering}
 use Rattle.gb_elab_laws.proofs.Typed.{apart_node, Typed, given_from, leaf, operated}
 
 -- A contract of a procedure that there is, with typed conditions.
-pub record IsContract (globs : Bool) (c : Context) (k : Contract) : Type 0 where
+pub record IsContract (globs : Name → Bool) (c : Context) (k : Contract) : Type 0 where
   pub there : IsThere (procedure c k.procedure)
   pub pre : IsGiven globs (with_own c (before (procedure c k.procedure))) Formula (Some ty.Bool) k.pre
   pub post : IsGiven globs (with_own c (after (procedure c k.procedure))) Formula (Some ty.Bool) k.post
 
 -- `1%r`
-one_typed : {globs : Bool} (c : Context) → Typed globs c Formula ty.Real one
+one_typed : {globs : Name → Bool} (c : Context) → Typed globs c Formula ty.Real one
 one_typed c =
     operated c Formula op.ToReal ty.Int ty.Real (node (Whole (pos 1)) [] ty.Int) tt (tt, refl)
     (leaf c Formula (Whole (pos 1)) ty.Int tt refl tt tt (λ e. tt))
 
-module _ {globs : Bool} (c : Context) (at : Environment) (vs : List Binding) (fit : IsFitting globs c at vs) (judges : has_judgments at.language ≡ true) where
+module _ {globs : Name → Bool} (c : Context) (at : Environment) (vs : List Binding) (fit : IsFitting globs c at vs) (judges : has_judgments at.language ≡ true) where
   -- a condition on one program over these variables
   pub condition : (F : Frame) (ls : List TypedName) → AreIn globs F ls → IsFitting globs (with_own c F) (reading (in_judgments at.memories) (unary at.declared at.sequent ls)) vs
   condition F ls h = record {
@@ -90,7 +91,7 @@ module _ {globs : Bool} (c : Context) (at : Environment) (vs : List Binding) (fi
         made_node c (Hoare (procedure_subject k.procedure)) (ty.Bool ∷ ty.Bool ∷ []) (k.pre ∷ k.post ∷ []) ty.Bool (refl, (refl, (refl, tt))) h.there []
         (record { typed = h.pre.typed; written = h.pre.wanted }, record { typed = h.post.typed; written = h.post.wanted });
     type = tt;
-    apart = λ e. apart_node (Hoare (procedure_subject k.procedure)) (k.pre ∷ k.post ∷ []) ty.Bool tt (h.pre.apart e, (h.post.apart e, tt));
+    apart = apart_node globs (Hoare (procedure_subject k.procedure)) (k.pre ∷ k.post ∷ []) ty.Bool tt (h.pre.apart, (h.post.apart, tt));
     plain = λ e. absurd (false≢true (sym e ∙ judges));
   }
 
@@ -100,7 +101,7 @@ module _ {globs : Bool} (c : Context) (at : Environment) (vs : List Binding) (fi
         made_node c (Phoare (procedure_subject k.procedure) r) (ty.Bool ∷ ty.Bool ∷ ty.Real ∷ []) (k.pre ∷ k.post ∷ b ∷ []) ty.Bool ((refl, (refl, (refl, tt))), refl) h.there []
         (record { typed = h.pre.typed; written = h.pre.wanted }, (record { typed = h.post.typed; written = h.post.wanted }, record { typed = g.typed; written = g.wanted }));
     type = tt;
-    apart = λ e. apart_node (Phoare (procedure_subject k.procedure) r) (k.pre ∷ k.post ∷ b ∷ []) ty.Bool tt (h.pre.apart e, (h.post.apart e, (g.apart e, tt)));
+    apart = apart_node globs (Phoare (procedure_subject k.procedure) r) (k.pre ∷ k.post ∷ b ∷ []) ty.Bool tt (h.pre.apart, (h.post.apart, (g.apart, tt)));
     plain = λ e. absurd (false≢true (sym e ∙ judges));
   }
 

@@ -1,5 +1,5 @@
 -- Probabilities are typed.
-use Rattle.std.proofs.Common.{◌≡◌, Bool, true, false, List, [], ◌∷◌, ◌++◌, map, Some, refl, sym, ◌∙◌, subst}
+use Rattle.std.proofs.Common.{◌≡◌, Bool, true, List, [], ◌∷◌, ◌++◌, map, Some, refl, sym, ◌∙◌, subst}
 use Rattle.std.proofs.lemmas.Bool.{false≢true}
 use Rattle.gb_core.specs.declared.ty.Ty.TheVariants as ty
 use Rattle.gb_terms.specs.declared.decl.TypedName.{TypedName}
@@ -16,25 +16,25 @@ use Rattle.gb_typing.proofs.Made.{EachMade, made_node}
 use Rattle.gb_laws.specs.Typing.{IsProbability}
 use Rattle.gb_meaning.specs.Trees.{row}
 use Rattle.gb_meaning.specs.Naming.{AnyName}
-use Rattle.gb_typing.specs.Naming.{NoName, TermNames, TermsName}
+use Rattle.gb_typing.specs.Naming.{TermNames, TermsName}
 use Rattle.gb_names.specs.declared.setting.Language.TheVariants.{Formula}
 use Rattle.gb_names.specs.Allowed.{has_judgments}
 use Rattle.gb_names.specs.Environment.{Name, Environment}
 use Rattle.gb_names.specs.declared.bindings.Binding.{Binding}
 use Rattle.gb_elab.specs.Probability.{before_call, chance}
-use Rattle.gb_elab_laws.specs.Fitting.{IsTypeOf, IsFitting, IsGiven}
+use Rattle.gb_elab_laws.specs.Fitting.{Allows, IsTypeOf, IsFitting, IsGiven}
 use Rattle.gb_elab_laws.proofs.Judged.{judging, known_there}
 use Rattle.gb_elab_laws.proofs.Remembered.{IsNamedMemory, remembering}
 use Rattle.gb_elab_laws.proofs.Typed.{Typed, apart_node}
 
 -- arguments of the types of these parameters
-abbrev pub AreArguments : Bool → Context → List TypedName → List Term → Type 0
+abbrev pub AreArguments : (Name → Bool) → Context → List TypedName → List Term → Type 0
 AreArguments globs c [] [] = Unit {0}
-AreArguments globs c (v ∷ vs) (t ∷ ts) = (Made c v.ty t × (globs ≡ false → TermNames NoName AnyName t)) × AreArguments globs c vs ts
+AreArguments globs c (v ∷ vs) (t ∷ ts) = (Made c v.ty t × TermNames (Allows globs) AnyName t) × AreArguments globs c vs ts
 AreArguments globs c _ _ = ⊥
 
 -- arguments, and an event
-with_event : (globs : Bool) (c d : Context) (vs : List TypedName) (ts : List Term) (e : Term) → AreArguments globs c vs ts → Made d ty.Bool e →
+with_event : (globs : Name → Bool) (c d : Context) (vs : List TypedName) (ts : List Term) (e : Term) → AreArguments globs c vs ts → Made d ty.Bool e →
     EachMade c c d (map (λ (v : TypedName). v.ty) vs ++ ty.Bool ∷ []) (ts ++ e ∷ [])
 with_event globs c d [] [] e h k = k
 with_event globs c d [] (t ∷ ts) e h k = absurd h
@@ -44,13 +44,13 @@ with_event globs c d (v ∷ []) (t ∷ u ∷ ts) e h k = absurd h.1
 with_event globs c d (v ∷ w ∷ vs) (t ∷ []) e h k = absurd h.1
 with_event globs c d (v ∷ w ∷ vs) (t ∷ u ∷ ts) e h k = (h.0.0, with_event globs c d (w ∷ vs) (u ∷ ts) e h.1 k)
 
-event_apart : (globs : Bool) (c : Context) (vs : List TypedName) (ts : List Term) (e : Term) → AreArguments globs c vs ts → globs ≡ false → TermNames NoName AnyName e → TermsName NoName AnyName (row (ts ++ e ∷ []))
-event_apart globs c [] [] e h p k = (k, tt)
-event_apart globs c [] (t ∷ ts) e h p k = absurd h
-event_apart globs c (v ∷ vs) [] e h p k = absurd h
-event_apart globs c (v ∷ vs) (t ∷ ts) e h p k = (h.0.1 p, event_apart globs c vs ts e h.1 p k)
+event_apart : (globs : Name → Bool) (c : Context) (vs : List TypedName) (ts : List Term) (e : Term) → AreArguments globs c vs ts → TermNames (Allows globs) AnyName e → TermsName (Allows globs) AnyName (row (ts ++ e ∷ []))
+event_apart globs c [] [] e h k = (k, tt)
+event_apart globs c [] (t ∷ ts) e h k = absurd h
+event_apart globs c (v ∷ vs) [] e h k = absurd h
+event_apart globs c (v ∷ vs) (t ∷ ts) e h k = (h.0.1, event_apart globs c vs ts e h.1 k)
 
-module _ {globs : Bool} (c : Context) (at : Environment) (vs : List Binding) (fit : IsFitting globs c at vs) (judges : has_judgments at.language ≡ true) where
+module _ {globs : Name → Bool} (c : Context) (at : Environment) (vs : List Binding) (fit : IsFitting globs c at vs) (judges : has_judgments at.language ≡ true) where
   -- arguments of a call from the memory of a name, beside other forms
   pub call_fits : (x : Name) → IsFitting globs c (before_call at x) vs
   call_fits x = record {
@@ -84,6 +84,6 @@ module _ {globs : Bool} (c : Context) (at : Environment) (vs : List Binding) (fi
           (m.frame, m.place, subst IsThere (sym known.there) tt) []
           (with_event globs c (with_own c (after (procedure c f))) a.params ts b h (record { typed = g.typed; written = g.wanted }));
       type = tt;
-      apart = λ k. apart_node (Pr f s) (ts ++ b ∷ []) ty.Real tt (event_apart globs c a.params ts b h k (g.apart k));
+      apart = apart_node globs (Pr f s) (ts ++ b ∷ []) ty.Real tt (event_apart globs c a.params ts b h g.apart);
       plain = λ k. absurd (false≢true (sym k ∙ judges));
     }

@@ -31,13 +31,14 @@ use Rattle.gb_typing.specs.Context.{Context, of_program}
 use Rattle.gb_typing.specs.Programs.{HaveVariableTypes, IsProcedure, type_of_procedure}
 use Rattle.gb_typing.specs.Scopes.{procedure_types}
 use Rattle.gb_meaning.specs.Modules.{found as named}
-use Rattle.gb_elab_laws.specs.Fitting.{AreTypes, IsGiven}
+use Rattle.gb_elab_laws.specs.Fitting.{AreTypes, IsGiven, of_no_module}
 use Rattle.gb_elab_laws.proofs.Given.{given_bind, given_is, if_refused}
 use Rattle.gb_elab_laws.proofs.Types.{spelled_typed}
 use Rattle.gb_typing.proofs.Globals.{name_test, or_false}
 use Rattle.gb_elab_laws.proofs.Typed.{given_from}
 use Rattle.gb_elab_laws.proofs.Leaves.{unit_typed}
-use Rattle.gb_elab_laws.proofs.Shapes.{finite_form}
+use Rattle.gb_elab_laws.proofs.MoreNames.{none_named}
+use Rattle.gb_elab_laws.proofs.Shapes.{variable_form}
 use Rattle.gb_meaning.specs.Naming.{AnyName}
 use Rattle.gb_typing.specs.Naming.{NoName, TermNames}
 use Rattle.gb_elab_laws.specs.Speaking.{BodySpeaks}
@@ -104,11 +105,11 @@ module _ (ds : Declarations) (c : Context) (m : Module) (beside : IsAround ds c 
     abbrev around : Context
     around = of_program c vs
 
-    value_typed : (ts : List Node) (r : Ty) (u : Term) → IsVariableType r → lacks_value ts r ≡ false → value at ts r ≡ given u → IsGiven false around Program (Some r) u
-    value_typed (t ∷ ts) r u k l h = elaborated_typed t around at [] (fits ds c m beside vs typed) (Some r) (finite_form false r k) u h
+    value_typed : (ts : List Node) (r : Ty) (u : Term) → IsVariableType r → lacks_value ts r ≡ false → value at ts r ≡ given u → IsGiven of_no_module around Program (Some r) u
+    value_typed (t ∷ ts) r u k l h = elaborated_typed t around at [] (fits ds c m beside vs typed) (Some r) (variable_form of_no_module r k) u h
     value_typed [] r u k l h =
         let e : r ≡ ty.Unit = is_unit (ty_eq r ty.Unit) refl l in
-        subst (IsGiven false around Program (Some r)) (given_is unit u h) (given_from around Program (Some r) ty.Unit unit (unit_typed around at [] (fits ds c m beside vs typed)) (sym e))
+        subst (IsGiven of_no_module around Program (Some r)) (given_is unit u h) (given_from around Program (Some r) ty.Unit unit (unit_typed around at [] (fits ds c m beside vs typed)) (sym e))
       where
         is_unit : (b : Bool) → ty_eq r ty.Unit ≡ b → not b ≡ false → r ≡ ty.Unit
         is_unit true e k = (ty_eq-Decides r ty.Unit).0 e
@@ -140,7 +141,7 @@ module _ (ds : Declarations) (c : Context) (m : Module) (beside : IsAround ds c 
           returned = g.wanted;
           result = k;
         },
-        (y.1, g.apart refl),
+        (y.1, none_named u.0 g.apart),
       )
 
   free_name : (ps : List Proc) (n : Name) → list_any (λ p. bytes_eq p.name n) ps ≡ false → named (procedure_types ps) n ≡ None

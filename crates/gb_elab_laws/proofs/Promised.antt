@@ -1,5 +1,5 @@
 -- Equivalences that hold give couplings.
-use Rattle.std.proofs.Common.{◌≡◌, ℕ, false, List, [], ◌∷◌, map, ap, sym, subst}
+use Rattle.std.proofs.Common.{◌≡◌, false, List, [], ◌∷◌, map, ap, sym, subst}
 use Rattle.gb_core.specs.declared.ty.Ty.TheVariants.{Bool as truths}
 use Rattle.gb_core.specs.declared.value.Value.{Value}
 use Rattle.gb_terms.specs.declared.decl.TypedName.{TypedName}
@@ -10,7 +10,6 @@ use Rattle.gb_terms.specs.declared.term.Head.TheVariants.{Equiv, Proc}
 use Rattle.gb_goal.specs.Scope as scope
 use Rattle.gb_goal.specs.declared.sequent.Sequent.{Sequent}
 use Rattle.gb_meaning.specs.Names.{Name}
-use Rattle.gb_meaning.specs.Values.{World}
 use Rattle.gb_meaning.specs.Setting.{Setting}
 use Rattle.gb_meaning.specs.Memory.{Memory}
 use Rattle.gb_meaning.specs.State.{State, between}

@@ -7,6 +7,7 @@ use Rattle.gb_core.specs.declared.ty.Ty.{Ty}
 use Rattle.gb_core.specs.declared.ty.Ty.TheVariants as ty
 use Rattle.gb_terms.specs.declared.decl.TypedName.{TypedName}
 use Rattle.gb_terms.specs.declared.term.Term.{Term}
+use Rattle.gb_meaning.specs.Names.{Name}
 use Rattle.gb_names.specs.declared.binders.Quantifier.{Quantifier}
 use Rattle.gb_names.specs.declared.binders.Quantifier.TheVariants.{Forall, Exists}
 use Rattle.gb_names.specs.declared.bindings.Binding.{Binding}
@@ -32,7 +33,7 @@ use Rattle.gb_typing.specs.Context.{Frame, Context, erased, frame_of, within}
 use Rattle.gb_typing.specs.Typing.{IsFrame}
 use Rattle.gb_typing.specs.Programs.{HaveVariableTypes}
 use Rattle.gb_terms.specs.declared.op.Side.TheVariants as side
-use Rattle.gb_elab_laws.specs.Fitting.{reads_globals, AllFiniteWith, AreTypes, IsBoundTo, IsBoundName, AreReadable, IsFitting}
+use Rattle.gb_elab_laws.specs.Fitting.{reads_globals, AllFiniteIn, AreTypes, IsBoundTo, IsBoundName, AreReadable, IsFitting}
 use Rattle.gb_elab_laws.proofs.Given.{given_bind, given_is, if_allowed}
 use Rattle.gb_elab_laws.proofs.Types.{no_distribution, spelled_typed}
 use Rattle.gb_elab_laws.proofs.Shapes.{with_globs, variable_with, finite_form}
@@ -47,7 +48,7 @@ have_front [] ms h = tt
 have_front (l ∷ ls) ms h = (h.0, have_front ls ms h.1)
 
 -- types of variables are of forms
-pub variables_with : (globs : Bool) (vs : List TypedName) → HaveVariableTypes vs → AllFiniteWith globs vs
+pub variables_with : (globs : Name → Bool) (vs : List TypedName) → HaveVariableTypes vs → AllFiniteIn globs vs
 variables_with globs [] h = tt
 variables_with globs (v ∷ vs) h = (variable_with globs v.ty h.0, variables_with globs vs h.1)
 
@@ -103,7 +104,7 @@ abbrev pub under_all : Context → List Binding → Context
 under_all c [] = c
 under_all c (w ∷ ws) = under_all (under_one c w.kind) ws
 
-module _ {globs : Bool} (at : Environment) where
+module _ {globs : Name → Bool} (at : Environment) where
   -- under one binder more, which has locals where it binds a memory
   pub inner_fits : (c : Context) (vs : List Binding) → IsFitting globs c at vs → (b : Binder) (f : Frame) → (IsMemory b → IsFrame f) → (v : Binding) → IsBoundName globs b v →
       IsFitting globs (within c b f) at (v ∷ vs)
@@ -150,7 +151,7 @@ module _ {globs : Bool} (at : Environment) where
   under_all_fits (w ∷ ws) vs c h fit =
       subst (IsFitting globs (under_all c (w ∷ ws)) at) (sym (reversed w ws vs)) (under_all_fits ws (w ∷ vs) (under_one c w.kind) h.1 (one_fits c vs fit w h.0))
 
-module _ {globs : Bool} (l : Language) where
+module _ {globs : Name → Bool} (l : Language) where
   over_typed : (c : Context) (q : Quantifier) (k : Kind) (f : Term) → MayBeBound l k → Typed globs (under_one c k) l ty.Bool f → Typed globs c l ty.Bool (over q k f)
   over_typed c Forall (Value t) f h m = for_all c l t f (variable_with globs t h) m
   over_typed c Exists (Value t) f h m = for_some c l t f (variable_with globs t h) m

@@ -1,5 +1,5 @@
 -- The memories that names stand for.
-use Rattle.std.proofs.Common.{◌≡◌, ℕ, ◌<◌, nat_lt, Bool, true, false, if◌then◌else◌, List, length, is_some, Option, Some, None, get_or, refl, sym, subst}
+use Rattle.std.proofs.Common.{◌≡◌, ℕ, ◌<◌, nat_lt, Bool, true, false, if◌then◌else◌, List, length, is_some, Option, Some, None, refl, subst}
 use Rattle.std.specs.Option.{option_map_or}
 use Rattle.std.proofs.lemmas.Bool.{ltb-true}
 use Rattle.gb_core.specs.declared.place.Place.{Place}
@@ -19,10 +19,9 @@ use Rattle.gb_names.specs.Environment.{Name, Environment}
 use Rattle.gb_names.specs.Names.{bound_memory, context_memory, has_memories, known_at, memory, memory_at, named, names_before, no_memory}
 use Rattle.gb_names.specs.Wanted.{counted}
 use Rattle.gb_laws.specs.Typing.{binder, IsMemory, IsSide}
-use Rattle.gb_laws.specs.Typing.Binder.{program}
 use Rattle.gb_typing.specs.Context.{Context, erased, frame_of}
 use Rattle.gb_typing.specs.Typing.{IsFrame, IsPlace}
-use Rattle.gb_elab_laws.specs.Fitting.{reads_globals, IsBoundTo, IsBoundName, IsFitting}
+use Rattle.gb_elab_laws.specs.Fitting.{reads_globals, IsBoundTo, IsFitting}
 use Rattle.gb_elab_laws.proofs.Found.{found_bound}
 use Rattle.gb_elab_laws.proofs.Given.{counted_is, given_bind, given_is, if_refused, not_given}
 
@@ -48,7 +47,7 @@ pub record IsNamedMemory (c : Context) (s : Side) : Type 0 where
   pub frame : IsFrame (frame_of c s)
   pub place : IsPlace s
 
-module _ {globs : Bool} (c : Context) (at : Environment) (vs : List Binding) (fit : IsFitting globs c at vs) (may : has_memories at.language ≡ true) where
+module _ {globs : Name → Bool} (c : Context) (at : Environment) (vs : List Binding) (fit : IsFitting globs c at vs) (may : has_memories at.language ≡ true) where
   counted_memory : (n : ℕ) → n < length at.sequent.memories → (s : Side) → memory n ≡ given s → IsNamedMemory c s
   counted_memory n h s e =
       let i = given_bind (counted n) (λ i. given (side.Memory i)) s e in

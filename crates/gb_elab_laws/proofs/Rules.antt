@@ -31,7 +31,7 @@ use Rattle.gb_operators.specs.declared.operators.Operands.TheVariants.{Truths, A
 use Rattle.gb_operators.specs.declared.operators.Infix.{Infix}
 use Rattle.gb_operators.specs.declared.operators.Prefix.{Prefix}
 use Rattle.gb_operators.specs.declared.operators.Prefix.TheVariants as prefix
-use Rattle.gb_operators.specs.declared.rules.Asked.TheVariants.{Form, Branch, Source, Function}
+use Rattle.gb_operators.specs.declared.rules.Asked.TheVariants.{Form, Source, Function}
 use Rattle.gb_operators.specs.declared.rules.Rule.{Rule}
 use Rattle.gb_operators.specs.declared.rules.Rule.TheVariants as rule
 use Rattle.gb_operators.specs.Drawn.{drawn_head, drawn_result, value_wanted}
@@ -41,9 +41,8 @@ use Rattle.gb_operators.specs.Rules.{asked, factor_wanted, in_order, made, membe
 use Rattle.gb_elab_laws.specs.Fitting.{IsFormTypeIf, IsGiven}
 use Rattle.gb_elab_laws.proofs.Given.{given_bind, given_is, if_allowed, if_given, if_refused, if_some, out_type, same_some, some_given}
 use Rattle.gb_elab_laws.proofs.Types.{no_distribution_from}
-use Rattle.gb_elab_laws.proofs.Shapes.{EachFiniteWith, parts_finite}
+use Rattle.gb_elab_laws.proofs.Shapes.{EachFiniteIn, parts_finite, form_with}
 use Rattle.gb_elab_laws.proofs.Tested.{numbered, ordered, arithmetic, signed, of_bits, of_numbers, of_values, option_of, distribution_of, map_of, tuple_of, element_of, got, got_finite}
-use Rattle.gb_elab_laws.proofs.Globless.{form_with}
 use Rattle.gb_elab_laws.proofs.Typed.{Typed, EachTyped, IsSome, of_given, of_script, operated, combined}
 use Rattle.gb_elab_laws.proofs.Operators.{conditional, tuple, part, some, content, entry, changed, in_map, in_support, weight, certain, product}
 use Rattle.gb_elab_laws.proofs.Binding.{measured, summed, imaged, restricted}
@@ -60,7 +59,7 @@ behind_all [] u us = refl
 behind_all (f ∷ front) u us = behind_all front u us
 
 -- Operators of two sides of one type.
-module _ (globs : Bool) (c : Context) (l : Language) where
+module _ (globs : Name → Bool) (c : Context) (l : Language) where
   two_typed : (o : Op) (s : Operands) → Suits o s → (t : Ty) → takes s t ≡ true → (s ≡ Truths → t ≡ ty.Bool) → (x y : Term) → Typed globs c l t x → Typed globs c l t y →
       Typed globs c l (result_type s t) (applied o (x ∷ y ∷ []) (result_type s t))
   two_typed op.And Truths n t k b x y m h = let e = b refl in combined c l op.And t t ty.Bool x y tt (e, (e, (refl, tt))) m h
@@ -116,7 +115,7 @@ module _ (globs : Bool) (c : Context) (l : Language) where
       let k = if_some (is_of_values (type_of_term s)) (ty.Distr (type_of_term s)) t e in
       subst (λ z. Typed globs c l z (applied op.Dunit (s ∷ []) z)) k.1 (certain c l (type_of_term s) s (of_values globs (type_of_term s) k.0 m.type) m)
 
-module _ (globs : Bool) (c : Context) (at : Environment) (w : Option Ty) (p : Place) (f : IsFormTypeIf globs w) where
+module _ (globs : Name → Bool) (c : Context) (at : Environment) (w : Option Ty) (p : Place) (f : IsFormTypeIf globs w) where
   -- what a rule makes is typed
   abbrev Makes : Rule → List Term → Type 0
   Makes r ts = AreOperands globs c at r w p [] ts → (u : Term) → made r p ts ≡ given u → IsSome globs c at.language u
@@ -147,7 +146,7 @@ module _ (globs : Bool) (c : Context) (at : Environment) (w : Option Ty) (p : Pl
       (typed_part globs c at (slice_get ws.0 (length before)) t g, parts_typed n (before ++ t ∷ []) ts h.1)
 
   all_values : (ts : List Term) → EachTyped globs c at.language (map type_of_term ts) ts → list_all (λ t. is_of_values (type_of_term t)) ts ≡ true →
-      EachFiniteWith globs (map type_of_term ts)
+      EachFiniteIn globs (map type_of_term ts)
   all_values [] m e = tt
   all_values (t ∷ ts) m e =
       let k = and_parts (is_of_values (type_of_term t)) (list_all (λ s. is_of_values (type_of_term s)) ts) e in

@@ -53,13 +53,13 @@ use Rattle.gb_elab.specs.Forms.{function}
 use Rattle.gb_elab_mod.specs.Occurring.{occurring}
 use Rattle.gb_operators.specs.Literals.{place_inside}
 use Rattle.gb_elab_mod.specs.OnPrograms.{acts, cut_of, last_sampled, functions, of_bodies_rule, one_type, plain_rule, conseq_rule, case_of_bodies, seq_rule, there_and_back, of_bodies, couplings, drawing_rule, coupling_rule, functions_of, both_rule, chance_rule, judges_chance}
-use Rattle.gb_elab_mod.specs.Steps.{conclusion_rule, case_of_conclusion, formed, sided_case_rule, typed_rule, step_given, asked_of, witness_rule}
+use Rattle.gb_elab_mod.specs.Steps.{conclusion_rule, case_of_conclusion, formed, sided_case_rule, typed_rule, step_given, witness_rule}
 use Rattle.gb_elab_mod.specs.Multiples.{hypothesis_at, multiples, position}
 use Rattle.gb_elab_mod.specs.Uses.{all_hinted, defined_operator, hypothesis, used}
 use Rattle.gb_elab_mod.specs.Taken.{new_name}
 use Rattle.gb_elab_mod.specs.OnPrograms as steps
 use Rattle.gb_elab_prog.specs.Unbuilt.{absent}
-use Rattle.gb_elab_laws.specs.Fitting.{IsFitting, IsGiven}
+use Rattle.gb_elab_laws.specs.Fitting.{IsFitting, IsGiven, of_each_module}
 use Rattle.gb_equiv.specs.Rows.{IsTypedRule}
 use Rattle.gb_typing.specs.Samplings.{Sampling, last_sampling}
 use Rattle.gb_equiv.specs.Rnd.{IsFunction, AreFunctions, AreBetween, AreTypedFunctions}
@@ -73,18 +73,18 @@ use Rattle.gb_elab_laws.proofs.EventLaws.{of_event_law, of_splitting}
 use Rattle.gb_elab_laws.proofs.Given.{given_bind, given_is, if_given}
 use Rattle.gb_elab_laws.proofs.Ends.{AreOfTheirTypes, ends_agree, last_finite, occurring_in}
 use Rattle.gb_elab_laws.proofs.Fits.{function_fits, goal_fits}
-use Rattle.gb_elab_laws.proofs.Shapes.{finite_form}
+use Rattle.gb_elab_laws.proofs.Shapes.{finite_each, value_form}
 use Rattle.gb_elab_laws.proofs.Forms.{function_typed}
 use Rattle.gb_elab_laws.proofs.Occurring.{reads_stand}
 
 -- Functions of a coupling, in a context that fits.
-module _ (c : Context) (ds : scope.Declarations) (q : Sequent) (xs ys : List TypedName) (fit : IsFitting true c (of_function ds q xs ys) []) where
+module _ (c : Context) (ds : scope.Declarations) (q : Sequent) (xs ys : List TypedName) (fit : IsFitting of_each_module c (of_function ds q xs ys) []) where
   abbrev at : Environment
   at = of_function ds q xs ys
 
   one_typed : (f : Node) (a b : Ty) → IsFinite a → IsFinite b → (t : Term) → function f at a b ≡ given t → IsFunction c a b t
   one_typed f a b v w t h =
-      let g : IsGiven true (within c (value a) None) Function (Some b) t = function_typed f c at fit a b v (finite_form true b w) t h in
+      let g : IsGiven of_each_module (within c (value a) None) Function (Some b) t = function_typed f c at fit a b (finite_each a v) (value_form b w) t h in
       record { typed = g.typed; plain = g.plain refl; result = g.wanted }
 
   -- functions there and back; one alone is given only where both types are one
@@ -135,7 +135,7 @@ module _ (ds : scope.Declarations) (scoped : IsTypedScope (declared ds)) (q : Se
       abbrev conditions : List Term
       conditions = p ∷ k ∷ []
 
-      fits : IsFitting true (two here ls rs) (of_function ds q (occurring ds conditions side.Left l.list) (occurring ds conditions side.Right r.list)) []
+      fits : IsFitting of_each_module (two here ls rs) (of_function ds q (occurring ds conditions side.Left l.list) (occurring ds conditions side.Right r.list)) []
       fits =
           function_fits ds scoped q t ls rs _ _
           (occurring_in ls here ds known side.Left p k l.list (reads_stand (two here ls rs) p w.3.typed side.Left tt) (reads_stand (two here ls rs) k w.4.typed side.Left tt) w.1)

@@ -1,5 +1,5 @@
 -- What the typing of statements gives is typed.
-use Rattle.std.proofs.Common.{◌≡◌, ℕ, true, List, [], ◌∷◌, ◌++◌, map, drop, length, pred, take, if◌then◌else◌, Option, Some, None, refl, ap, sym, ◌∙◌, subst, false}
+use Rattle.std.proofs.Common.{◌≡◌, ℕ, true, List, [], ◌∷◌, ◌++◌, map, drop, length, pred, take, if◌then◌else◌, Option, Some, None, refl, ap, sym, ◌∙◌, subst}
 use Rattle.std.proofs.lemmas.Bool.{false≢true}
 use Rattle.gb_core.specs.declared.place.Place.{Place}
 use Rattle.gb_core.specs.declared.refusal.Why.TheVariants.{TypeMismatch}
@@ -44,7 +44,7 @@ use Rattle.gb_laws.specs.Programs.{Take, variable_type}
 use Rattle.gb_typing.specs.Context.{Context, erased, of_program}
 use Rattle.gb_typing.specs.Programs.{IsExpression, HaveVariableTypes}
 use Rattle.gb_typing.proofs.Lists.{hidden_each, typed_append}
-use Rattle.gb_elab_laws.specs.Fitting.{IsFitting, IsFormType, IsGiven}
+use Rattle.gb_elab_laws.specs.Fitting.{IsFitting, IsFormType, IsGiven, of_no_module}
 use Rattle.gb_elab_laws.proofs.Around.{IsAround}
 use Rattle.gb_elab_laws.proofs.Around as program_around
 use Rattle.gb_elab_laws.proofs.Called as of_calls
@@ -52,7 +52,8 @@ use Rattle.gb_elab_laws.proofs.Forms.{elaborated_typed, given_alike, sampled_ali
 use Rattle.gb_elab_laws.proofs.Given.{given_bind, given_is, if_given, none_some, out_type, some_given}
 use Rattle.gb_elab_laws.proofs.Operators.{changed}
 use Rattle.gb_elab_laws.proofs.Spoken.{hidden_speaks, speak_append}
-use Rattle.gb_elab_laws.proofs.Shapes.{drawn_form, entries_finite, finite_form}
+use Rattle.gb_elab_laws.proofs.MoreNames.{none_named}
+use Rattle.gb_elab_laws.proofs.Shapes.{drawn_form, entries_finite, finite_form, variable_form, variable_with}
 use Rattle.gb_elab_laws.proofs.Tested.{map_of}
 use Rattle.gb_elab_laws.proofs.Typed.{Typed, given_from, leaf, of_given}
 use Rattle.gb_elab_laws.proofs.Types.{distributions_over}
@@ -90,10 +91,10 @@ module _ (ds : Declarations) (c : Context) (m : Module) (around : IsAround ds c 
   abbrev AreTargets : List Target → Type 0
   AreTargets = program_around.AreTargets ds c m around vs typed
 
-  fits : IsFitting false inner here []
+  fits : IsFitting of_no_module inner here []
   fits = program_around.fits ds c m around vs typed
 
-  expression : (w : Option Ty) (e : Term) → IsGiven false inner Program w e → IsExpression c vs e
+  expression : (w : Option Ty) (e : Term) → IsGiven of_no_module inner Program w e → IsExpression c vs e
   expression = program_around.expression ds c m around vs typed
 
   abbrev IsMade : Instr → Type 0
@@ -126,13 +127,13 @@ module _ (ds : Declarations) (c : Context) (m : Module) (around : IsAround ds c 
       let v = given_bind (target here x p) _ i h in
       let from = given_bind (elaborated d (sampled here) [] (Some (ty.Distr v.0.1))) (λ (e : Term). given (Sample v.0.0 e)) i v.2 in
       let t = target_typed x p v.0 v.1 in
-      let same = sampled_alike false Program in
+      let same = sampled_alike of_no_module Program in
       let g =
-      given_alike false inner Sampled Program same (Some (ty.Distr v.0.1)) from.0
-      (elaborated_typed d inner (sampled here) [] (speaking_fits false inner here [] Sampled same fits) (Some (ty.Distr v.0.1)) (drawn_form false v.0.1 t.1) from.0 from.1) in
+      given_alike of_no_module inner Sampled Program same (Some (ty.Distr v.0.1)) from.0
+      (elaborated_typed d inner (sampled here) [] (speaking_fits of_no_module inner here [] Sampled same fits) (Some (ty.Distr v.0.1)) (drawn_form of_no_module v.0.1 (variable_with of_no_module v.0.1 t.1)) from.0 from.1) in
       let k = distributions_over v.0.1 (type_of from.0) (variable_finite v.0.1 t.1) g.wanted in
       let made : variable_type (erased c) vs v.0.0 ≡ Some (outcome_type (type_of from.0)) = t.0 ∙ ap Some (sym k.1) in
-      subst (IsMade) {x = Sample v.0.0 from.0} (given_is (Sample v.0.0 from.0) i from.2) ((expression (Some (ty.Distr v.0.1)) from.0 g, k.0, made), g.apart refl)
+      subst (IsMade) {x = Sample v.0.0 from.0} (given_is (Sample v.0.0 from.0) i from.2) ((expression (Some (ty.Distr v.0.1)) from.0 g, k.0, made), none_named from.0 g.apart)
   sampling_typed x [] p i h = cc
   sampling_typed x (d ∷ e ∷ es) p i h = cc
 
@@ -142,11 +143,11 @@ module _ (ds : Declarations) (c : Context) (m : Module) (around : IsAround ds c 
       let v = given_bind (target here x p) _ i h in
       let u = given_bind (elaborated e here [] (Some v.0.1)) (λ (u : Term). given (Assign (v.0.0 ∷ []) u)) i v.2 in
       let t = target_typed x p v.0 v.1 in
-      let g = elaborated_typed e inner here [] fits (Some v.0.1) (finite_form false v.0.1 t.1) u.0 u.1 in
+      let g = elaborated_typed e inner here [] fits (Some v.0.1) (variable_form of_no_module v.0.1 t.1) u.0 u.1 in
       let made : variable_type (erased c) vs v.0.0 ≡ Some (type_of u.0) = t.0 ∙ ap Some (sym g.wanted) in
       let finite : IsFinite (type_of u.0) = subst IsFinite (sym g.wanted) (variable_finite v.0.1 t.1) in
       subst (IsMade) {x = Assign (v.0.0 ∷ []) u.0} (given_is (Assign (v.0.0 ∷ []) u.0) i u.2)
-      ((record { expression = expression (Some v.0.1) u.0 g; finite = finite }, made), g.apart refl)
+      ((record { expression = expression (Some v.0.1) u.0 g; finite = finite }, made), none_named u.0 g.apart)
   assignment_typed x [] p i h = cc
   assignment_typed x (d ∷ e ∷ es) p i h = cc
 
@@ -156,10 +157,10 @@ module _ (ds : Declarations) (c : Context) (m : Module) (around : IsAround ds c 
       let ws = given_bind (targets here [] ts) _ i h in
       let u = given_bind (elaborated e here [] (Some (type_of_all ws.0))) (λ (u : Term). given (Assign (variables_of ws.0) u)) i ws.2 in
       let k = targets_typed [] ws.0 ts tt ws.1 in
-      let g = elaborated_typed e inner here [] fits (Some (type_of_all ws.0)) (finite_form false (type_of_all ws.0) (all_variable ws.0 k)) u.0 u.1 in
+      let g = elaborated_typed e inner here [] fits (Some (type_of_all ws.0)) (variable_form of_no_module (type_of_all ws.0) (all_variable ws.0 k)) u.0 u.1 in
       let finite : IsFinite (type_of u.0) = subst IsFinite (sym g.wanted) (all_finite ws.0 k) in
       subst (IsMade) {x = Assign (variables_of ws.0) u.0} (given_is (Assign (variables_of ws.0) u.0) i u.2)
-      ((record { expression = expression (Some (type_of_all ws.0)) u.0 g; finite = finite }, all_take ws.0 (type_of u.0) k g.wanted), g.apart refl)
+      ((record { expression = expression (Some (type_of_all ws.0)) u.0 g; finite = finite }, all_take ws.0 (type_of u.0) k g.wanted), none_named u.0 g.apart)
   tuple_typed ts [] p i h = cc
   tuple_typed ts (d ∷ e ∷ es) p i h = cc
 
@@ -189,9 +190,9 @@ module _ (ds : Declarations) (c : Context) (m : Module) (around : IsAround ds c 
   written_typed ts _ es p i h = cc
 
   -- a variable is read in the own memory
-  read_typed : (v : Target) → IsTarget v → Typed false inner Program v.1 (node (Read (read_of.Program v.0 side.Own)) [] v.1)
-  read_typed (Local x, t) h = leaf inner Program (Read (read_of.Program (Local x) side.Own)) t (finite_form false t h.1) (tt, variable_finite t h.1) h.0 tt (λ e. (tt, e))
-  read_typed (Global m x, t) h = leaf inner Program (Read (read_of.Program (Global m x) side.Own)) t (finite_form false t h.1) (tt, variable_finite t h.1, h.0) (tt, h.0) tt (λ e. (tt, e))
+  read_typed : (v : Target) → IsTarget v → Typed of_no_module inner Program v.1 (node (Read (read_of.Program v.0 side.Own)) [] v.1)
+  read_typed (Local x, t) h = leaf inner Program (Read (read_of.Program (Local x) side.Own)) t (variable_form of_no_module t h.1) (tt, variable_finite t h.1) h.0 tt (λ e. (tt, e))
+  read_typed (Global m x, t) h = leaf inner Program (Read (read_of.Program (Global m x) side.Own)) t (variable_form of_no_module t h.1) (tt, variable_finite t h.1, h.0) (tt, h.0) tt (λ e. (tt, e))
   read_typed (Glob a, t) h = none_some t h.0
 
   entry_typed : (v : Target) → IsTarget v → (t : Ty × Ty) → v.1 ≡ ty.Map t.0 t.1 → (k e : Node) (i : Instr) → entry_stored here v t k e ≡ given i → IsMade i
@@ -199,16 +200,16 @@ module _ (ds : Declarations) (c : Context) (m : Module) (around : IsAround ds c 
   entry_typed v o t is k e i h =
       let a = given_bind (elaborated k here [] (Some t.0)) _ i h in
       let b = given_bind (elaborated e here [] (Some t.1)) (λ (b : Term). given (Assign (v.0 ∷ []) (stored_term v a.0 b))) i a.2 in
-      let parts = entries_finite false t.0 t.1 (subst (IsFormType false) is (finite_form false v.1 o.1)) in
-      let y = elaborated_typed k inner here [] fits (Some t.0) (finite_form false t.0 parts.0) a.0 a.1 in
-      let z = elaborated_typed e inner here [] fits (Some t.1) (finite_form false t.1 parts.1) b.0 b.1 in
-      let made : Typed false inner Program v.1 (stored_term v a.0 b.0) =
-      subst (λ u. Typed false inner Program u (applied op.Set (node (Read (read_of.Program v.0 side.Own)) [] v.1 ∷ a.0 ∷ b.0 ∷ []) u)) (sym is)
-      (changed inner Program t.0 t.1 _ a.0 b.0 (subst (λ u. Typed false inner Program u (node (Read (read_of.Program v.0 side.Own)) [] v.1)) is (read_typed v o)) (of_given inner Program t.0 a.0 y) (of_given inner Program t.1 b.0 z)) in
+      let parts = entries_finite of_no_module t.0 t.1 (subst (IsFormType of_no_module) is (variable_form of_no_module v.1 o.1)) in
+      let y = elaborated_typed k inner here [] fits (Some t.0) (finite_form of_no_module t.0 parts.0) a.0 a.1 in
+      let z = elaborated_typed e inner here [] fits (Some t.1) (finite_form of_no_module t.1 parts.1) b.0 b.1 in
+      let made : Typed of_no_module inner Program v.1 (stored_term v a.0 b.0) =
+      subst (λ u. Typed of_no_module inner Program u (applied op.Set (node (Read (read_of.Program v.0 side.Own)) [] v.1 ∷ a.0 ∷ b.0 ∷ []) u)) (sym is)
+      (changed inner Program t.0 t.1 _ a.0 b.0 (subst (λ u. Typed of_no_module inner Program u (node (Read (read_of.Program v.0 side.Own)) [] v.1)) is (read_typed v o)) (of_given inner Program t.0 a.0 y) (of_given inner Program t.1 b.0 z)) in
       let g = given_from inner Program (Some v.1) v.1 (stored_term v a.0 b.0) made refl in
       let finite : IsFinite (type_of (stored_term v a.0 b.0)) = subst IsFinite (sym g.wanted) (variable_finite v.1 o.1) in
       subst (IsMade) {x = Assign (v.0 ∷ []) (stored_term v a.0 b.0)} (given_is (Assign (v.0 ∷ []) (stored_term v a.0 b.0)) i b.2)
-      ((record { expression = expression (Some v.1) (stored_term v a.0 b.0) g; finite = finite }, o.0 ∙ ap Some (sym g.wanted)), g.apart refl)
+      ((record { expression = expression (Some v.1) (stored_term v a.0 b.0) g; finite = finite }, o.0 ∙ ap Some (sym g.wanted)), none_named (stored_term v a.0 b.0) g.apart)
 
   stored_typed : (x : Name) (ts : List Node) (p : Place) (i : Instr) → stored here x ts p ≡ given i → IsMade i
   unfolding stored
@@ -263,7 +264,7 @@ module _ (ds : Declarations) (c : Context) (m : Module) (around : IsAround ds c 
       subst (AreMade) (given_is (If t.0 (record { list = y.0 }) (record { list = n.0 }) ∷ []) is n.2)
       (let l = f y.0 y.1 in
       let r = g n.0 n.1 in
-      ((((expression (Some ty.Bool) t.0 k, k.wanted), hidden_each c vs y.0 l.0, hidden_each c vs n.0 r.0), tt), ((k.apart refl, hidden_speaks NoName y.0 l.1, hidden_speaks NoName n.0 r.1), tt)))
+      ((((expression (Some ty.Bool) t.0 k, k.wanted), hidden_each c vs y.0 l.0, hidden_each c vs n.0 r.0), tt), ((none_named t.0 k.apart, hidden_speaks NoName y.0 l.1, hidden_speaks NoName n.0 r.1), tt)))
 
   list_typed : (ks : List Known) (is : List Instr) → all_stated (parts ks) here ≡ given is → AreMade is
   list_typed [] is h = subst (AreMade) (given_is [] is h) (tt, tt)
@@ -282,7 +283,7 @@ module _ (ds : Declarations) (c : Context) (m : Module) (around : IsAround ds c 
       let k = given_bind (elaborated s here [] None) (λ k. if counts_down k then given k else refused TypeMismatch (place_inside s)) v h in
       let u = if_given (counts_down k.0) k.0 TypeMismatch (place_inside s) v k.2 in
       let g = elaborated_typed s inner here [] fits None tt k.0 k.1 in
-      subst IsVariant u.1 ((expression None k.0 g, modulo k.0 u.0), g.apart refl)
+      subst IsVariant u.1 ((expression None k.0 g, modulo k.0 u.0), none_named k.0 g.apart)
   variant_typed [] p v h = cc
 
   -- a loop, of which the statements behind the variant are typed
@@ -295,7 +296,7 @@ module _ (ds : Declarations) (c : Context) (m : Module) (around : IsAround ds c 
       let n = variant_typed (parts_of l) (place_of l) v.0 v.1 in
       let r = f y.0 y.1 in
       subst (AreMade) (given_is (While t.0 v.0 (record { list = y.0 }) ∷ []) is y.2)
-      ((((expression (Some ty.Bool) t.0 k, k.wanted), n.0, hidden_each c vs y.0 r.0), tt), ((k.apart refl, n.1, hidden_speaks NoName y.0 r.1), tt))
+      ((((expression (Some ty.Bool) t.0 k, k.wanted), n.0, hidden_each c vs y.0 r.0), tt), ((none_named t.0 k.apart, n.1, hidden_speaks NoName y.0 r.1), tt))
 
   begun_typed : (x t : Node) (ss : Stating) → Gives ss → (is : List Instr) → begun here x t ss ≡ given is → AreMade is
   begun_typed x t ss f is h =

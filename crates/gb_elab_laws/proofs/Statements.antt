@@ -1,6 +1,5 @@
 -- What the typing of a lemma's statement gives is typed.
-use Rattle.std.proofs.Common.{◌≡◌, ℕ, suc, Bool, true, false, nat_lt, List, [], ◌∷◌, ◌++◌, length, map, Some, refl, ap, sym, ◌∙◌, subst}
-use Rattle.std.proofs.lemmas.List.{append-nil}
+use Rattle.std.proofs.Common.{◌≡◌, ℕ, suc, Bool, false, nat_lt, List, [], ◌∷◌, ◌++◌, length, map, Some, refl, ap, ◌∙◌, subst}
 use Rattle.gb_core.specs.declared.place.Place.{Place}
 use Rattle.gb_core.specs.declared.refusal.Why.TheVariants.{TooMany}
 use Rattle.gb_core.specs.declared.ty.Ty.TheVariants as ty
@@ -19,7 +18,7 @@ use Rattle.gb_meaning.specs.Names.{Name}
 use Rattle.gb_meaning.specs.Written.{type_of}
 use Rattle.gb_typing.specs.Programs.{HaveVariableTypes}
 use Rattle.gb_meaning.specs.Naming.{AnyName}
-use Rattle.gb_typing.specs.Naming.{NoName, EachGlobOf, TermNames}
+use Rattle.gb_typing.specs.Naming.{IsAmong, EachGlobOf, TermNames}
 use Rattle.gb_names.specs.declared.setting.Language.TheVariants.{Formula}
 use Rattle.gb_elab_laws.specs.Speaking.{IsFirmScope}
 use Rattle.gb_meaning.specs.Declared.{declared}
@@ -40,16 +39,17 @@ use Rattle.gb_elab_prog.specs.declared.context.Bound.{Bound}
 use Rattle.gb_elab_prog.specs.Contexts.{all_bound, around, in_context, nothing_bound}
 use Rattle.gb_elab_prog.specs.Contexts.{context_of as bound_context}
 use Rattle.gb_elab_laws.proofs.Given.{given_bind, given_is, if_refused}
-use Rattle.gb_elab_laws.specs.Fitting.{MayStand, IsGiven}
+use Rattle.gb_elab_laws.specs.Fitting.{Allows, MayStand, IsGiven, of_each_module}
+use Rattle.gb_arguments.specs.Arguments.{names_of}
 use Rattle.gb_elab_laws.specs.Procedures.{IsOfProcedures}
 use Rattle.gb_elab_laws.proofs.BoundModules.{IsBound, all_typed, none_typed}
-use Rattle.gb_elab_laws.proofs.Fits.{context_fits, firm_stand, nothing_read, reading_fits}
+use Rattle.gb_elab_laws.proofs.Fits.{bound_stand, context_fits, is_bound, nothing_read, reading_fits}
 use Rattle.gb_elab_laws.proofs.Forms.{elaborated_typed}
 use Rattle.gb_elab_laws.proofs.Members.{free_is}
 use Rattle.gb_elab_laws.proofs.Types.{have_finite}
 use Rattle.gb_elab_laws.proofs.Procedures.{bodies_speak, judges_procedures}
 use Rattle.gb_elab_laws.proofs.Quantified.{variables_with}
-use Rattle.gb_elab_laws.proofs.Shapes.{finite_form, globless}
+use Rattle.gb_elab_laws.proofs.Shapes.{form_names, variable_form}
 
 -- What a lemma states: a typed goal, which is a truth without a quantifier over modules in front, under a free name. Its modules may be
 -- declared behind the others, and then it is a typed goal without them.
@@ -84,17 +84,22 @@ form_typed c b f h w = record {
   conclusion = goal_conclusion (within c b) [] [] (of_form f) w;
 }
 
--- variables of such types speak of no module's globals together
-globless_values : (vs : List TypedName) → HaveVariableTypes vs → EachGlobOf NoName vs
-globless_values [] h = tt
-globless_values (v ∷ vs) h = (globless v.ty (finite_form false v.ty h.0), globless_values vs h.1)
+-- variables of such types speak of no globals but of those that may stand together
+values_named : (globs : Name → Bool) (vs : List TypedName) → HaveVariableTypes vs → EachGlobOf (Allows globs) vs
+values_named globs [] h = tt
+values_named globs (v ∷ vs) h = (form_names globs v.ty (variable_form globs v.ty h.0), values_named globs vs h.1)
 
-of_procedures : (c : Context) (b : Bound) (f : Term) → HaveVariableTypes b.values → IsForm (within c b) f → (b.modules ≡ [] → TermNames NoName AnyName f) → IsOfProcedures (in_context b f)
+of_procedures : (c : Context) (b : Bound) (f : Term) → HaveVariableTypes b.values → IsForm (within c b) f → TermNames (IsAmong (names_of b.modules)) AnyName f → IsOfProcedures (in_context b f)
 of_procedures c b f h w k = record {
   hyps = refl;
   bodies = judges_procedures (within c b) f w.typed;
   front = goal_front (within c b) [] [] (of_form f) w;
-  speaks = λ e. record { logical = globless_values b.values h; hyps = tt; conclusion = k e; bodies = bodies_speak NoName (within c b) f w.typed };
+  speaks = record {
+    logical = values_named (is_bound b.modules) b.values h;
+    hyps = tt;
+    conclusion = k;
+    bodies = bodies_speak (IsAmong (names_of b.modules)) (within c b) f w.typed;
+  };
 }
 
 -- a form in the context of what is bound, where its modules are declared
@@ -102,20 +107,18 @@ module _ (ds : Declarations) (b : Bound) (t : Node) (f : Term) (e : elaborated t
   abbrev c : Context
   c = context_of (declared (around ds b))
 
-  claim_typed : (globs : Bool) → MayStand globs (around ds b) → IsBound ds b → IsGiven globs (within c b) Formula (Some ty.Bool) f
+  claim_typed : (globs : Name → Bool) → MayStand globs (around ds b) → IsBound ds b → IsGiven globs (within c b) Formula (Some ty.Bool) f
   claim_typed globs stand h =
       let at = bound_context b in
       let fits = context_fits globs (around ds b) at (no_locals b.memories) (as_many b.memories) refl nothing_read (variables_with globs b.values h.values) stand h.scope in
       elaborated_typed t (within c b) (statement (around ds b) at) [] (reading_fits outside (within c b) (ambient (around ds b) at) [] fits) (Some ty.Bool) tt f e
 
   claim_form : IsBound ds b → IsForm (within c b) f
-  claim_form h = let g = claim_typed true (λ a k. refl) h in record { typed = g.typed; truth = g.wanted }
+  claim_form h = let g = claim_typed of_each_module (λ a k. refl) h in record { typed = g.typed; truth = g.wanted }
 
-  -- without modules it speaks of no module's globals together
-  claim_speaks : IsFirmScope ds → IsBound ds b → b.modules ≡ [] → TermNames NoName AnyName f
-  claim_speaks firm h none =
-      let g = claim_typed false (subst (λ bs. MayStand false (ds ++ binder_entries bs)) (sym none) (subst (MayStand false) (sym (append-nil ds)) (firm_stand ds firm))) h in
-      g.apart refl
+  -- it speaks of the globals of the modules that are bound alone
+  claim_speaks : IsFirmScope ds → IsBound ds b → TermNames (IsAmong (names_of b.modules)) AnyName f
+  claim_speaks firm h = let g = claim_typed (is_bound b.modules) (bound_stand ds b.modules firm) h in g.apart
 
   claim_stated : (n : List ℕ) → is_declared (declared ds) n ≡ false → (IsTypedScope (declared ds) → IsBound ds b) → IsStated ds n (in_context b f)
   claim_stated n free h = record {

@@ -35,7 +35,8 @@ use Rattle.gb_typing.proofs.Conclusions.{formula_form, conclusion_sound}
 use Rattle.gb_typing.proofs.Models.{each_setting}
 use Rattle.gb_typing.proofs.Sound.{procedures_sound, sound_form}
 use Rattle.gb_typing.proofs.TypedGoals.{no_module}
-use Rattle.gb_elab_laws.specs.Speaking.{ScopeSpeaks, BodiesSpeak, HypsSpeak, GoalSpeaks, IsWithoutModules, IsFirm, IsModuleOrLemma}
+use Rattle.gb_arguments.specs.Firm.{IsFirm}
+use Rattle.gb_elab_laws.specs.Speaking.{ScopeSpeaks, BodiesSpeak, HypsSpeak, GoalSpeaks, IsWithoutModules, IsModuleOrLemma}
 use Rattle.gb_elab_laws.proofs.LinkedNames.{procedures_in, variables_apart, measured_apart}
 use Rattle.gb_elab_laws.proofs.MoreNames.{more_term, more_scope, more_goal}
 use Rattle.gb_elab_laws.proofs.NamedForms.{reference_known, Procedures, form_names, conclusion_names}

@@ -30,7 +30,8 @@ use Rattle.gb_typing.specs.Scopes.{AreTypedAfter, IsDeclared, IsFree, IsTypedSco
 use Rattle.gb_typing.specs.Sequents.{of_sequent}
 use Rattle.gb_typing.proofs.Located.{IsTypedThere, typed_there}
 use Rattle.gb_elab_laws.specs.Falsehood.{falsehood}
-use Rattle.gb_elab_laws.specs.Speaking.{BodySpeaks, DeclarationSpeaks, IsFirm, IsFirmScope, ProceduresSpeak, ScopeSpeaks}
+use Rattle.gb_arguments.specs.Firm.{IsFirm}
+use Rattle.gb_elab_laws.specs.Speaking.{BodySpeaks, DeclarationSpeaks, IsFirmScope, ProceduresSpeak, ScopeSpeaks}
 use Rattle.gb_elab_laws.proofs.LinkedNames.{body_names, none_some, procedures_in}
 use Rattle.gb_elab_laws.proofs.Models.{no_section}
 use Rattle.gb_elab_laws.proofs.MoreNames.{more_scope, parts}

@@ -28,7 +28,8 @@ use Rattle.gb_typing.specs.Scopes.{nothing, operator_type, of_operator, interfac
 use Rattle.gb_typing.specs.Sequents.{IsTypedSequent}
 use Rattle.gb_typing.specs.Typing.{IsThere, first, middle, last, IsTyped, AreTyped}
 use Rattle.gb_typing.proofs.Globals.{or_false}
-use Rattle.gb_elab_laws.specs.Speaking.{DeclarationSpeaks, ScopeSpeaks, GoalSpeaks, IsWithoutModules, IsFirm, IsFirmScope}
+use Rattle.gb_arguments.specs.Firm.{IsFirm}
+use Rattle.gb_elab_laws.specs.Speaking.{DeclarationSpeaks, ScopeSpeaks, GoalSpeaks, IsWithoutModules, IsFirmScope}
 use Rattle.gb_elab_laws.proofs.Growing.{over, Grown}
 use Rattle.gb_elab_laws.proofs.GrowingGoals.{each_append, goal_grown}
 use Rattle.gb_elab_laws.proofs.LinkedNames.{none_some, variables_apart, measured_apart}

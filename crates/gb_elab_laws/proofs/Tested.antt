@@ -7,15 +7,15 @@ use Rattle.gb_core.specs.declared.ty.Ty.{Ty, out-Ty, roll-Ty, end_of-Ty, more_of
 use Rattle.gb_core.specs.declared.ty.Ty.TheVariants as ty
 use Rattle.gb_core.specs.declared.ty.Ty.TheOpen as layer
 use Rattle.gb_core.specs.declared.ty.Ty.TheViews.{out-roll-Ty}
-use Rattle.gb_laws.specs.Finite.{IsFiniteWith}
+use Rattle.gb_meaning.specs.Names.{Name}
 use Rattle.gb_laws.specs.Operators.{item, IsArithmetic, IsOfBits, IsOfNumbers, IsOrdered, IsSigned}
 use Rattle.gb_names.specs.Allowed.{is_distribution, is_distribution_layer}
 use Rattle.gb_operators.specs.Domain.{counts_to, counts_to_layer}
 use Rattle.gb_operators.specs.Kinds.{component, components, components_layer, element, element_layer, entries, entries_layer, inside_option, is_arithmetic, is_arithmetic_layer, is_of_bits, is_of_bits_layer, is_of_numbers, is_of_numbers_layer, is_of_values, is_of_values_layer, is_ordered, is_ordered_layer, is_signed, is_signed_layer, option_layer, outcome, outcome_layer}
-use Rattle.gb_elab_laws.specs.Fitting.{IsFormType, IsFormTypeIf}
+use Rattle.gb_elab_laws.specs.Fitting.{IsFormType, IsFormTypeIf, IsFiniteIn}
 use Rattle.gb_elab_laws.proofs.Given.{none_some, same_some}
 use Rattle.gb_elab_laws.proofs.Types.{distribution_layer}
-use Rattle.gb_elab_laws.proofs.Shapes.{by_layer, made_of, finite_form, EachFiniteWith}
+use Rattle.gb_elab_laws.proofs.Shapes.{by_layer, made_of, finite_form, EachFiniteIn}
 
 -- a type of which the layer passes a test
 tested : (P : Ty → Type 0) (test : layer.Ty-F Ty → Bool) → ((x : layer.Ty-F Ty) → test x ≡ true → P (roll-Ty x)) → (t : Ty) → test (out-Ty t) ≡ true → P t
@@ -65,7 +65,7 @@ of_numbers = tested IsOfNumbers is_of_numbers_layer step
     step _ e = absurd (false≢true e)
 
 -- a type of forms that passes the test is one of values
-pub of_values : (globs : Bool) (t : Ty) → is_of_values t ≡ true → IsFormType globs t → IsFiniteWith globs t
+pub of_values : (globs : Name → Bool) (t : Ty) → is_of_values t ≡ true → IsFormType globs t → IsFiniteIn globs t
 of_values globs ty.Int e f = absurd (false≢true (sym (ap is_of_values_layer (ap out-Ty (sym ty.rolls-Int) ∙ out-roll-Ty layer.Int)) ∙ e))
 of_values globs ty.Real e f = absurd (false≢true (sym (ap is_of_values_layer (ap out-Ty (sym ty.rolls-Real) ∙ out-roll-Ty layer.Real)) ∙ e))
 of_values globs (ty.Distr' p (more_of-Ty t end_of-Ty)) e f = absurd (false≢true (sym (ap is_of_values_layer (distribution_layer t)) ∙ e))
@@ -147,14 +147,14 @@ numbered us k t e = step (k == 0) refl e
     step true z h = none_some t h
     step false z h = (above k (eqb-false k 0 z), subst (λ i. slice_get us i ≡ Some t) (sub-one k) h)
 
-module _ (globs : Bool) where
-  pub got_finite : (us : List Ty) (i : ℕ) (t : Ty) → EachFiniteWith globs us → slice_get us i ≡ Some t → IsFiniteWith globs t
+module _ (globs : Name → Bool) where
+  pub got_finite : (us : List Ty) (i : ℕ) (t : Ty) → EachFiniteIn globs us → slice_get us i ≡ Some t → IsFiniteIn globs t
   got_finite [] i t h e = none_some t e
-  got_finite (u ∷ us) zero t h e = subst (IsFiniteWith globs) (same_some u t e) h.0
+  got_finite (u ∷ us) zero t h e = subst (IsFiniteIn globs) (same_some u t e) h.0
   got_finite (u ∷ us) (suc i) t h e = got_finite us i t h.1 e
 
   -- the part that is wanted at a place, if one is
-  pub got_form : (us : List Ty) (i : ℕ) → EachFiniteWith globs us → IsFormTypeIf globs (slice_get us i)
+  pub got_form : (us : List Ty) (i : ℕ) → EachFiniteIn globs us → IsFormTypeIf globs (slice_get us i)
   got_form [] i h = tt
   got_form (u ∷ us) zero h = finite_form globs u h.0
   got_form (u ∷ us) (suc i) h = got_form us i h.1

@@ -90,7 +90,7 @@ row_typed : (ts : List Ty) → AllByRecursion IsVariableType ts → AreFiniteWit
 row_typed [] h = tt
 row_typed (t ∷ ts) h = (h.0, row_typed ts h.1)
 
-tuple_typed : (ts : List Ty) → AllByRecursion IsVariableType ts → IsVariableType (ty.Tuple ts)
+pub tuple_typed : (ts : List Ty) → AllByRecursion IsVariableType ts → IsVariableType (ty.Tuple ts)
 tuple_typed ts h = subst IsVariableType (sym (tuple_is ts)) (row_typed ts h)
 
 plain_typed : (x : List ℕ) (p : Place) → GivesVariable (plain_type x p)

@@ -17,12 +17,11 @@ use Rattle.gb_terms.specs.declared.op.Side.TheVariants as side
 use Rattle.gb_goal.specs.Answers.{◌>>=◌, given_or, not_built}
 use Rattle.gb_meaning.specs.Names.{Name}
 use Rattle.gb_goal.specs.Answers.Answer.{given, refused}
+use Rattle.gb_goal.specs.Interfaces.{interface_at}
 use Rattle.gb_goal.specs.Scope as scope
-use Rattle.gb_goal.specs.Scope.{as_lemma, binders_of, entry_of, lemma_of}
+use Rattle.gb_goal.specs.Scope.{binders_of, lemma_of}
 use Rattle.gb_goal.specs.declared.scope.Binder.{Binder}
-use Rattle.gb_goal.specs.declared.scope.Binder.TheVariants.{Value, Memory}
-use Rattle.gb_goal.specs.declared.scope.Entry.{Entry}
-use Rattle.gb_goal.specs.declared.scope.Entry.TheVariants as entry
+use Rattle.gb_goal.specs.declared.scope.Binder.TheVariants.{Value, Memory, Module}
 use Rattle.gb_goal.specs.declared.sequent.Hyp.{Hyp}
 use Rattle.gb_goal.specs.declared.sequent.Sequent.{Sequent}
 use Rattle.gb_script.specs.declared.head.Head.{Head as Kind}
@@ -31,7 +30,8 @@ use Rattle.gb_script.specs.declared.tree.Node.{Node}
 use Rattle.gb_script.specs.Tree.{head_of, text_of, parts_of, place_of}
 use Rattle.gb_meaning.proofs.Nodes.{each_is_node}
 use Rattle.gb_laws.specs.Finite.{IsFinite}
-use Rattle.gb_meaning.specs.Declared.{declaration_of, declared}
+use Rattle.gb_meaning.specs.Declared.{declared}
+use Rattle.gb_instances.specs.Instance.{GivenModule, instance_of}
 use Rattle.gb_laws.specs.Programs.{HaveFiniteTypes}
 use Rattle.gb_laws.specs.Typing.{IsSide}
 use Rattle.gb_laws.specs.Typing.Binder.{memory}
@@ -48,52 +48,30 @@ use Rattle.gb_amb.proofs.Wider.{small, wider}
 use Rattle.gb_amb.specs.Witness.{at_memory}
 use Rattle.gb_amb.specs.Instances.{Argument as UsedArgument, IsArgument, Says, at_argument}
 use Rattle.gb_amb.specs.Instances.Argument.{of_value, of_memory}
-use Rattle.gb_amb.specs.Lemmas.{AreBindersOf, AreFinite, for_binders, for_each_memory, for_each_value, generalized, IsKnown, IsLemmaIn, IsOfStates}
+use Rattle.gb_amb.specs.Lemmas.{AreBindersOf, AreFinite, for_binders, for_each_memory, for_each_value, generalized, IsKnown, IsOfStates}
 use Rattle.gb_amb.proofs.Binders.{binders_typed, framed}
 use Rattle.gb_amb.proofs.Foralls.{argument_typed}
 use Rattle.gb_elab.specs.Forms.{elaborated}
 use Rattle.gb_names.specs.Environment.{ambient}
+use Rattle.gb_names.proofs.KnownModules.{module_known as expression_known}
 use Rattle.gb_elab_mod.specs.OtherLocals.{is_local, reads_other_locals}
 use Rattle.gb_elab_mod.specs.Multiples.{no_such}
 use Rattle.gb_elab_mod.specs.Taken.{is_taken}
-use Rattle.gb_elab_mod.specs.Uses.{about_all, about_memory, about_named, about_value, all_hinted, hinted, hinted_at, hypothesis_named, hypothesis, is_memory, lemma_named, memory_of, name_of, said_by, said_of, said_of_all, said_of_memory, said_on, used, used_at, used_named, value_of, without_modules as without_bound}
-use Rattle.gb_elab_laws.specs.Procedures.{AreStated, IsOfProcedures}
+use Rattle.gb_elab_mod.specs.Uses.{about_all, about_memory, about_named, about_statement, about_value, all_hinted, by_modules, hinted, hinted_at, hypothesis_named, hypothesis, inside, is_memory, lemma_named, memory_of, module_given, modules_given, name_of, other_arguments, other_binders, said_about, said_by, said_of, said_of_all, said_of_memory, said_of_modules, said_on, said_plainly, said_with_modules, used, used_at, used_named, value_of, with_given}
+use Rattle.gb_given.specs.Instance.{AreModulesOf}
+use Rattle.gb_facts.specs.Facts.{IsFact}
+use Rattle.gb_elab_laws.specs.Procedures.{AreStated}
 use Rattle.gb_elab_laws.proofs.Fits.{goal_fits}
 use Rattle.gb_elab_laws.proofs.Forms.{elaborated_typed}
 use Rattle.gb_elab_laws.proofs.Remembered.{IsNamedMemory, memory_is}
 use Rattle.gb_elab_laws.proofs.AboutNamed.{local_stands, memory_typed}
 use Rattle.gb_elab_laws.proofs.Given.{given_bind, given_is, if_refused, if_unbuilt, none_some, same_some}
-use Rattle.gb_elab_laws.proofs.Shapes.{finite_form}
+use Rattle.gb_elab_laws.proofs.Shapes.{value_form}
 
 -- what comes of a thing that is there
 mapped : (h : Term → Term) (o : Option Term) (g : Term) → option_map h o ≡ Some g → (f : Term) × (o ≡ Some f) × (h f ≡ g)
 mapped h None g e = cc
 mapped h (Some f) g e = (f, refl, same_some (h f) g e)
-
--- a lemma of a script is one of its declarations
-pub lemma_in : (es : scope.Declarations) (x : List ℕ) (l : Sequent) → lemma_of es x ≡ Some l → IsLemmaIn (declared es) l
-lemma_in [] x l e = cc
-lemma_in ((k, d) ∷ es) x l e = by_name (bytes_eq x k) (lemma_in es x l) e
-  where
-    here_is : (y : Entry) → as_lemma (Some y) ≡ Some l → IsLemmaIn ((k, declaration_of y) ∷ declared es) l
-    here_is (entry.Lemma r order) e = inl (same_some r l e)
-    here_is _ e = cc
-
-    further : (y : Entry) → IsLemmaIn (declared es) l → IsLemmaIn ((k, declaration_of y) ∷ declared es) l
-    further (entry.Lemma r order) m = inr m
-    further (entry.Module m) w = w
-    further (entry.Type t) w = w
-    further entry.AbstractType w = w
-    further (entry.ModuleType y) w = w
-    further (entry.AbstractModule y) w = w
-    further (entry.Constant c) w = w
-    further (entry.Operator o) w = w
-    further (entry.AbstractOperator o) w = w
-    further (entry.Terminating p) w = w
-
-    by_name : (b : Bool) → (lemma_of es x ≡ Some l → IsLemmaIn (declared es) l) → as_lemma (if b then Some d else entry_of es x) ≡ Some l → IsLemmaIn ((k, declaration_of d) ∷ declared es) l
-    by_name true g e = here_is d e
-    by_name false g e = further d (g e)
 
 module _ (ds : scope.Declarations) (scoped : IsTypedScope (declared ds)) (q : Sequent) (t : IsTypedSequent (context_of (declared ds)) q) where
   abbrev pub here : Context
@@ -113,7 +91,7 @@ module _ (ds : scope.Declarations) (scoped : IsTypedScope (declared ds)) (q : Se
 
   argument_of : (a : Node) (u : Ty) → IsFinite u → (x : Term) → elaborated a (ambient ds q) [] (Some u) ≡ given x → IsArgument here u x
   argument_of a u f x h =
-      let g = elaborated_typed a here (ambient ds q) [] (goal_fits ds scoped q t) (Some u) (finite_form true u f) x h in
+      let g = elaborated_typed a here (ambient ds q) [] (goal_fits ds scoped q t) (Some u) (value_form u f) x h in
       record { typed = g.typed; type = g.wanted }
 
   value_is : (a : Node) (u : Ty) → IsFinite u → (x : Term) → value_of ds q u a ≡ given x → IsArgument here u x
@@ -240,17 +218,17 @@ module _ (ds : scope.Declarations) (scoped : IsTypedScope (declared ds)) (q : Se
   all_finite [] h = tt
   all_finite (v ∷ vs) h = (h.0, all_finite vs h.1)
 
-  -- a lemma about procedures that binds no modules is about values and memories
-  abbrev about_states : (l : Sequent) → l.modules ≡ [] → IsTypedSequent (context_of (declared ds)) l → IsOfProcedures l → IsOfStates (declared ds) l
-  about_states l plain w p =
-      let c = of_sequent (context_of (declared ds)) l w.frames in
-      let formula = conclusion_formula c l.conclusion w.conclusion p.bodies in
-      let form : IsForm c l.conclusion = formula_form c l.conclusion formula p.front in
+  -- a statement about procedures that binds no modules is about values and memories
+  abbrev about_states : (l : Sequent) → l.modules ≡ [] → IsFact ds l → IsOfStates (declared ds) l
+  about_states l plain w =
+      let c = of_sequent (context_of (declared ds)) l w.typed.frames in
+      let formula = conclusion_formula c l.conclusion w.typed.conclusion w.bodies in
+      let form : IsForm c l.conclusion = formula_form c l.conclusion formula w.front in
       record {
         modules = plain;
-        hyps = p.hyps;
-        values = all_finite l.logical w.logical;
-        frames = w.frames;
+        hyps = w.hyps;
+        values = all_finite l.logical w.typed.logical;
+        frames = w.typed.frames;
         conclusion = form;
       }
 
@@ -262,6 +240,7 @@ module _ (ds : scope.Declarations) (scoped : IsTypedScope (declared ds)) (q : Se
   binders_are [] [] [] (l ∷ fs) n i m f g e = absurd (omega (arith, n))
   binders_are [] [] (x ∷ ms) fs n i m f g e = cc
   binders_are [] (v ∷ vs) ms fs n i m f g e = cc
+  binders_are (Module ∷ ks) vs ms fs n i m f g e = cc
   binders_are (Value ∷ ks) [] ms fs n i m f g e = cc
   binders_are (Value ∷ ks) (v ∷ vs) ms fs n i m f g e =
       let k = mapped (about_value i v.ty) (about_all ks vs ms (i + 1) m f) g e in
@@ -276,29 +255,66 @@ module _ (ds : scope.Declarations) (scoped : IsTypedScope (declared ds)) (q : Se
   abbrev IsUsed : Term → Type 0
   IsUsed f = IsForm here f × IsKnown (declared ds) q here f
 
-  -- a lemma and its arguments, at a goal without modules
-  said_by_lemma : q.modules ≡ [] → (x : List ℕ) (l : Sequent) → lemma_of ds x ≡ Some l → l.modules ≡ [] → IsTypedSequent (context_of (declared ds)) l → IsOfProcedures l →
-      (ks : List Binder) (g : Term) → about_all ks l.logical l.memories 0 0 l.conclusion ≡ Some g → (es : List Node) (p : Place) (f : Term) → said_on ds q ks es p g ≡ given f → IsUsed f
-  said_by_lemma alone x l there plain w o ks g a es p f e =
-      let k = if_refused (nat_lt (length es) (length ks)) Argument p _ f e in
-      let stated = about_states l plain w o in
-      let all = binders_are ks l.logical l.memories w.frames w.memories 0 0 l.conclusion g a in
+  -- what a statement without modules says of arguments, at a goal without modules
+  statement_said : q.modules ≡ [] → (l : Sequent) → l.modules ≡ [] → IsFact ds l → (ks : List Binder) (g : Term) → about_all ks l.logical l.memories 0 0 l.conclusion ≡ Some g →
+      (es : List Node) (f : Term) → said_of_all ds q g es ≡ given f → IsUsed f
+  statement_said alone l plain w ks g a es f e =
+      let stated = about_states l plain w in
+      let all = binders_are ks l.logical l.memories w.typed.frames w.typed.memories 0 0 l.conclusion g a in
       let form = generalized_typed l stated alone ks all.0 in
-      let s = said_of_each es (generalized ks l) f form (ap (λ z. said_of_all ds q z es) all.1 ∙ k.1) in
-      (s.2, inr (record { alone = alone; lemma = l; among = lemma_in ds x l there; stated = stated; binders = ks; all = all.0; arguments = s.0; says = s.1 }))
+      let s = said_of_each es (generalized ks l) f form (ap (λ z. said_of_all ds q z es) all.1 ∙ e) in
+      (s.2, inr (record { alone = alone; lemma = l; holds = w.holds; stated = stated; binders = ks; all = all.0; arguments = s.0; says = s.1 }))
+
+  -- the module that an argument is, is known
+  module_known : (a : Node) (k : GivenModule) → module_given ds q a ≡ given k.0 → interface_at ds None k.0.0 ≡ Some k.0.1
+  module_known a k e = expression_known (ambient ds q) [] (inside (head_of a) (parts_of a) a) k.0 e
+
+  modules_known : (ks : List Binder) (f : Term) (es : List Node) (ms : List GivenModule) → modules_given ds q ks f es ≡ given ms → AreModulesOf ds ms
+  unfolding modules_given
+  modules_known ks f [] ms e = subst (AreModulesOf ds) (given_is [] ms e) tt
+  modules_known [] f (a ∷ es) ms e =
+      let y = given_bind (said_of ds q (out-Term f).head (out-Term f).args a) (λ g. modules_given ds q [] g es) ms e in
+      modules_known [] y.0 es ms y.2
+  modules_known (Module ∷ ks) f (a ∷ es) ms e =
+      let y = given_bind (module_given ds q a) (λ m. modules_given ds q ks f es >>= λ ns. given (with_given a m ns)) ms e in
+      let z = given_bind (modules_given ds q ks f es) (λ ns. given (with_given a y.0 ns)) ms y.2 in
+      subst (AreModulesOf ds) (given_is (with_given a y.0 z.0) ms z.2) (module_known a (y.0, place_of a) y.1, modules_known ks f es z.0 z.1)
+  modules_known (Value ∷ ks) f (a ∷ es) ms e =
+      let y = given_bind (said_of ds q (out-Term f).head (out-Term f).args a) (λ g. modules_given ds q ks g es) ms e in
+      modules_known ks y.0 es ms y.2
+  modules_known (Memory ∷ ks) f (a ∷ es) ms e =
+      let y = given_bind (said_of ds q (out-Term f).head (out-Term f).args a) (λ g. modules_given ds q ks g es) ms e in
+      modules_known ks y.0 es ms y.2
 
   module _ (lemmas : AreStated ds) (alone : q.modules ≡ []) where
-    of_lemma : (x : List ℕ) (l : Sequent) → lemma_of ds x ≡ Some l → (ks : List Binder) (es : List Node) (p : Place) (f : Term) → said_by ds q ks l es p ≡ given f → IsUsed f
-    of_lemma x l there ks es p f e = by_modules l.modules refl e
-      where
-        by_option : l.modules ≡ [] → (o : Option Term) → about_all ks l.logical l.memories 0 0 l.conclusion ≡ o → option_map_or (said_on ds q ks es p) o (not_built p) ≡ given f → IsUsed f
-        by_option plain None a e = cc
-        by_option plain (Some g) a e = let w = lemmas x l there plain in said_by_lemma alone x l there plain w.0 w.1 ks g a es p f e
+    module _ (x : List ℕ) (l : Sequent) (there : lemma_of ds x ≡ Some l) (ks : List Binder) (es : List Node) (p : Place) (f : Term) where
+      plainly : l.modules ≡ [] → (o : Option Term) → about_statement ks l ≡ o → option_map_or (said_on ds q ks es p) o (not_built p) ≡ given f → IsUsed f
+      plainly plain None a e = cc
+      plainly plain (Some g) a e =
+          let k = if_refused (nat_lt (length es) (length ks)) Argument p _ f e in
+          statement_said alone l plain (lemmas.plain x l there plain) ks g a es f k.1
 
-        by_modules : (bs : List Bind) → l.modules ≡ bs →
-            without_bound bs (option_map_or (said_on ds q ks es p) (about_all ks l.logical l.memories 0 0 l.conclusion) (not_built p)) p ≡ given f → IsUsed f
-        by_modules [] plain e = by_option plain (about_all ks l.logical l.memories 0 0 l.conclusion) refl e
-        by_modules (b ∷ bs) plain e = cc
+      -- what is said of the modules that are given
+      of_instance : (r : Sequent) → r.modules ≡ [] → IsFact ds r → (o : Option Term) → about_statement (other_binders ks) r ≡ o →
+          option_map_or (λ h. said_of_all ds q h (other_arguments ks es)) o (not_built p) ≡ given f → IsUsed f
+      of_instance r plain w None a e = cc
+      of_instance r plain w (Some h) a e = statement_said alone r plain w (other_binders ks) h a (other_arguments ks es) f e
+
+      with_bound : (o : Option Term) → option_map_or (said_about ds q ks l es p) o (not_built p) ≡ given f → IsUsed f
+      with_bound None e = cc
+      with_bound (Some g) e =
+          let k = if_refused (nat_lt (length es) (length ks)) Argument p _ f e in
+          let y = given_bind (modules_given ds q ks g es) (said_of_modules ds q ks l es p) f k.1 in
+          let z = given_bind (instance_of ds l y.0 p) (λ r. option_map_or (λ h. said_of_all ds q h (other_arguments ks es)) (about_statement (other_binders ks) r) (not_built p)) f y.2 in
+          let w = lemmas.instances x l there y.0 (modules_known ks g es y.0 y.1) p z.0 z.1 in
+          of_instance z.0 w.0 w.1 (about_statement (other_binders ks) z.0) refl z.2
+
+      by_bound : (bs : List Bind) → l.modules ≡ bs → by_modules bs (said_plainly ds q ks l es p) (said_with_modules ds q ks l es p) ≡ given f → IsUsed f
+      by_bound [] plain e = plainly plain (about_statement ks l) refl e
+      by_bound (b ∷ bs) plain e = with_bound (about_statement (other_binders ks) l) e
+
+      of_lemma : said_by ds q ks l es p ≡ given f → IsUsed f
+      of_lemma e = by_bound l.modules refl e
 
     of_name : (x : List ℕ) (es : List Node) (p : Place) (f : Term) → used_named ds q x es p ≡ given f → IsUsed f
     unfolding used_named

@@ -88,7 +88,7 @@ weight_above ps x p m h =
     let d = if_given (nat_lt (sum_of ps + number_of x) (2 ^ 127)) (number_of x) (Overflow (pos (sum_of ps)) (pos (number_of x))) p m b.1 in
     subst (λ z. nat_lt 0 z ≡ true) d.1 b.0
 
-module _ {globs : Bool} (c : Context) (at : Environment) (vs : List Binding) (fit : IsFitting globs c at vs) where
+module _ {globs : Name → Bool} (c : Context) (at : Environment) (vs : List Binding) (fit : IsFitting globs c at vs) where
   constant_is : (x : Name) (p : Place) (k : Constant) → constant_of at vs x p ≡ given k → IsConstant k
   constant_is x p k h = step (constant_at at vs x) refl h
     where

@@ -1,23 +1,22 @@
 -- Scopes and goals that speak of the globals of some modules alone, where they take all globals of a module together: as a
 -- variable, or in a type `glob A`.
 use Rattle.std.specs.Prelude.{◌≡◌, false, List, [], ◌∷◌}
-use Rattle.gb_terms.specs.declared.decl.Proc.{Proc}
 use Rattle.gb_terms.specs.declared.term.Term.{Term, Term', end_of-Head, more_of-Head}
 use Rattle.gb_terms.specs.declared.term.Head.{Head}
 use Rattle.gb_terms.specs.declared.term.Head.TheVariants as head
-use Rattle.gb_terms.specs.declared.term.Head.TheVariants.{Assign, Sample, Call', If', While', Proc as procedure, Body'}
-use Rattle.gb_terms.specs.declared.term.Instr.{Instr, Row_of-Instr, end_of-Instr, more_of-Instr}
+use Rattle.gb_terms.specs.declared.term.Head.TheVariants.{Proc as procedure, Body'}
 use Rattle.gb_terms.specs.declared.term.Subject.{Subject}
 use Rattle.gb_goal.specs.declared.sequent.Hyp.{Hyp}
 use Rattle.gb_goal.specs.declared.sequent.Sequent.{Sequent}
 use Rattle.gb_goal.specs.Scope as scope
 use Rattle.gb_meaning.specs.Names.{Name}
-use Rattle.gb_meaning.specs.Declared.{Declarations, Declaration, declared, module_type, concrete_module, abstract_module, axiom_of, lemma}
+use Rattle.gb_meaning.specs.Declared.{Declaration, declared, module_type, concrete_module, lemma}
 use Rattle.gb_meaning.specs.Holds.{EachDeclared}
 use Rattle.gb_meaning.specs.Naming.{AnyName}
 use Rattle.gb_meaning.specs.Truth.{has_module}
 use Rattle.gb_typing.specs.Naming.{EachGlobOf, TermNames}
 pub use Rattle.gb_typing.specs.Speaking.{StatementSpeaks, StatementsSpeak, BodySpeaks, ProceduresSpeak, DeclarationSpeaks, ScopeSpeaks}
+use Rattle.gb_arguments.specs.Firm.{IsFirm}
 
 -- the body of a judgment, if it speaks of one
 abbrev pub SubjectSpeaks : (Name → Type 0) → Subject → Type 0
@@ -49,12 +48,6 @@ pub record GoalSpeaks (P : Name → Type 0) (q : Sequent) : Type 0 where
 pub record IsWithoutModules (q : Sequent) : Type 0 where
   pub modules : q.modules ≡ []
   pub conclusion : has_module q.conclusion ≡ false
-
--- a declaration that is no axiom, and of no open section
-abbrev pub IsFirm : Declaration → Type 0
-IsFirm (abstract_module b) = ⊥
-IsFirm (axiom_of q) = ⊥
-IsFirm _ = Unit {0}
 
 -- no declaration of the scope is an abstract module, as in those of scripts
 abbrev pub IsFirmScope : scope.Declarations → Type 0

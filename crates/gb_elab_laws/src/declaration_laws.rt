@@ -4,6 +4,8 @@ ghost use Rattle.std.specs.Prelude.{◌≡◌, false, List, [], ◌∷◌, ◌++
 ghost use Rattle.gb_core.specs.declared.ty.Ty.TheVariants as ty;
 ghost use Rattle.gb_terms.specs.declared.decl.Module.{Module};
 ghost use Rattle.gb_script.specs.declared.tree.Node.{Node};
+ghost use Rattle.gb_script.specs.Each.{Each};
+ghost use Rattle.gb_print.specs.Blank.{IsUnblank, begins_blank};
 ghost use Rattle.gb_goal.specs.Binders.{binder_entries, with_declared_modules};
 ghost use Rattle.gb_goal.specs.Scope as scope;
 ghost use Rattle.gb_goal.specs.Scope.{ClaimNothing};
@@ -17,6 +19,7 @@ ghost use Rattle.gb_meaning.specs.Declared.{concrete_module, declared};
 ghost use Rattle.gb_typing.specs.Naming.{NoName};
 ghost use Rattle.gb_elab_laws.specs.Speaking.{DeclarationSpeaks, IsFirmScope, ScopeSpeaks};
 ghost use Rattle.gb_elab_laws.specs.Procedures.{IsOfProcedures};
+ghost use Rattle.gb_facts.specs.Unblank.{AreUnblank};
 ghost use Rattle.gb_meaning.specs.Truth.{has_module};
 ghost use Rattle.gb_typing.specs.Sequents.{IsTypedSequent};
 ghost use Rattle.gb_typing.specs.Scopes.{context_of, is_declared, IsModule, IsTypedScope};
@@ -47,8 +50,8 @@ pub fn modules()
 {}
 
 /// In a typed scope, the goal that a lemma states is a typed goal, its conclusion is a truth in front of which no module is
-/// quantified, and the lemma's name is free. The goal has no hypotheses and judges no bodies; where it binds no module, in a script without
-/// abstract modules, it speaks of no module's globals together. The modules that it binds may be declared behind the scope, which stays
+/// quantified, and the lemma's name is free. The goal has no hypotheses and judges no bodies; in a script without abstract modules, it
+/// speaks of the globals of the modules that it binds alone together. These modules may be declared behind the scope, which stays
 /// typed, and there it is a typed goal without them.
 pub fn statements()
     ensures typed { (ds : scope.Declarations) → IsTypedScope (declared ds) → (t : Node) (q : Sequent) → statement_given ds t ≡ given q →
@@ -71,4 +74,13 @@ pub fn statements()
 pub fn lemmas()
     ensures { (ds : scope.Declarations) → IsTypedScope (declared ds) → (n : Name) → is_declared (declared ds) n ≡ false → (q : Sequent) (bs : List Binder) →
         IsTypedSequent (context_of (declared ds)) q → IsTypedScope (declared (ds ++ (n, entry.Lemma q bs) ∷ [])) }
+{}
+
+/// The names that commands declare begin with no blank, where no text of a node of theirs does: those of types, constants, operators and module
+/// types, of modules, of lemmas and of the modules that these bind.
+pub fn names()
+    ensures entries { (ds : scope.Declarations) (t : Node) (added : scope.Declarations) → Each IsUnblank t → entries_given ds t ≡ given added → AreUnblank added }
+    ensures modules { (ds : scope.Declarations) (t : Node) (m : Module) → Each IsUnblank t → module_given ds t ≡ given m → begins_blank m.name ≡ false }
+    ensures lemmas { (t : Node) → Each IsUnblank t → begins_blank (lemma_name t) ≡ false }
+    ensures statements { (ds : scope.Declarations) (t : Node) (q : Sequent) → Each IsUnblank t → statement_given ds t ≡ given q → AreUnblank (binder_entries q.modules) }
 {}

@@ -5,6 +5,7 @@ pub mod declaration_laws;
 pub mod footprint_laws;
 pub mod form_laws;
 pub mod idle_laws;
+pub mod lemma_laws;
 pub mod loop_laws;
 pub mod promise_laws;
 pub mod stay_laws;

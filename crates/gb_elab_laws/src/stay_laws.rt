@@ -17,7 +17,8 @@ ghost use Rattle.gb_meaning.specs.Settings.{setting};
 ghost use Rattle.gb_typing.specs.Naming.{NoName};
 ghost use Rattle.gb_typing.specs.Sequents.{IsTypedSequent};
 ghost use Rattle.gb_typing.specs.Scopes.{context_of, IsTypedScope};
-ghost use Rattle.gb_elab_laws.specs.Speaking.{ScopeSpeaks, GoalSpeaks, IsWithoutModules, IsFirm, IsFirmScope, IsModuleOrLemma};
+ghost use Rattle.gb_arguments.specs.Firm.{IsFirm};
+ghost use Rattle.gb_elab_laws.specs.Speaking.{ScopeSpeaks, GoalSpeaks, IsWithoutModules, IsFirmScope, IsModuleOrLemma};
 
 /// A typed goal without quantifiers over modules that holds over the declarations before it goes on to hold as the scope grows by
 /// declarations of any kind but axioms and modules of open sections; so all goals of scripts stay. Neither the goal nor the

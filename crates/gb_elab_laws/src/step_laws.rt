@@ -71,7 +71,7 @@ pub fn typed_rules()
 
 /// The form that a typed step on a conclusion brings to a typed goal of a typed scope is typed in the goal's context, in which a memory may
 /// then have further locals; and so is, in its context as it is, the form that a step uses, which is what a hypothesis of the goal says of
-/// typed terms, or a lemma, where lemmas state typed goals about procedures and the goal has no modules; so are the forms that `smt` is
+/// typed terms, or a lemma, where lemmas, and what they say of modules, are typed statements about procedures that hold, and the goal has no modules; so are the forms that `smt` is
 /// told to use, and those by which equals are put for equals. The event by which a probability is split is typed after its procedure.
 pub fn typed_forms()
     ensures conclusions { (ds : scope.Declarations) → IsTypedScope (declared ds) → (q : Sequent) (t : IsTypedSequent (context_of (declared ds)) q) →

@@ -3,3 +3,4 @@ pub mod Found
 pub mod LastProcedures
 pub mod Betweens
 pub mod NewModules
+pub mod GivenSteps

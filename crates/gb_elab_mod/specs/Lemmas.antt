@@ -3,7 +3,7 @@ use Rattle.std.specs.Prelude.{ℕ, List, [], ◌∷◌, ◌++◌, map, Some}
 use Rattle.gb_core.specs.declared.place.Place.{Place}
 use Rattle.gb_core.specs.declared.ty.Ty.TheVariants.{Bool as bool_ty}
 use Rattle.gb_goal.specs.declared.scope.Binder.{Binder}
-use Rattle.gb_goal.specs.declared.scope.Binder.TheVariants.{Value, Memory}
+use Rattle.gb_goal.specs.declared.scope.Binder.TheVariants.{Value, Memory, Module}
 use Rattle.gb_goal.specs.declared.sequent.Sequent.{Sequent}
 use Rattle.gb_goal.specs.Scope.{Declarations}
 use Rattle.gb_script.specs.declared.head.Head.{Head}
@@ -50,10 +50,11 @@ statement_by ds _ _ p = not_built p
 abbrev pub statement_given : Declarations → Node → Answer Sequent
 statement_given ds t = statement_by ds (head_of t) (parts_of t) (place_of t)
 
--- what a binder binds: values of one type, or a memory; the lemma of a module can't be used yet
+-- what a binder binds: values of one type, a memory, or a module
 abbrev pub binds : Head → List Node → List Binder
 binds head.Values (x ∷ xs ∷ t ∷ []) = Value ∷ map (λ x. Value) (parts_of xs)
 binds head.Memory ps = Memory ∷ []
+binds head.ModuleBind ps = Module ∷ []
 binds _ ps = []
 
 abbrev pub each_binds : List Node → List Binder

@@ -1,5 +1,5 @@
 -- The typing of hypotheses and lemmas that steps use, with their arguments.
-use Rattle.std.specs.Prelude.{ℕ, ◌+◌, nat_lt, Bool, true, false, not, ◌&&◌, if◌then◌else◌, List, [], ◌∷◌, length, Option, Some, None, bytes_eq}
+use Rattle.std.specs.Prelude.{ℕ, ◌+◌, nat_lt, Bool, true, false, not, ◌&&◌, if◌then◌else◌, List, [], ◌∷◌, filter, length, Option, Some, None, bytes_eq}
 use Rattle.std.specs.Option.{option_map_or, option_map}
 use Rattle.gb_core.specs.declared.place.Place.{Place}
 use Rattle.gb_core.specs.declared.refusal.Why.TheVariants.{Argument}
@@ -23,7 +23,7 @@ use Rattle.gb_goal.specs.Scope.{Declarations, entry_of, lemma_of, binders_of}
 use Rattle.gb_terms.specs.declared.op.Side.{Side}
 use Rattle.gb_terms.specs.declared.op.Side.TheVariants as side
 use Rattle.gb_goal.specs.declared.scope.Binder.{Binder}
-use Rattle.gb_goal.specs.declared.scope.Binder.TheVariants.{Value, Memory}
+use Rattle.gb_goal.specs.declared.scope.Binder.TheVariants.{Value, Memory, Module}
 use Rattle.gb_goal.specs.Answers.{Answer, ◌>>=◌, given_or, not_built}
 use Rattle.gb_goal.specs.Answers.Answer.{given, refused}
 use Rattle.gb_script.specs.declared.head.Head.{Head as Kind}
@@ -31,8 +31,11 @@ use Rattle.gb_script.specs.declared.head.Head.TheVariants as text
 use Rattle.gb_script.specs.declared.tree.Node.{Node}
 use Rattle.gb_script.specs.Tree.{head_of, text_of, parts_of, place_of}
 use Rattle.gb_names.specs.Environment.{ambient}
+use Rattle.gb_names.specs.Modules.{module_at}
 use Rattle.gb_names.specs.Names.{memory_at, path}
 use Rattle.gb_elab.specs.Forms.{elaborated}
+use Rattle.gb_instances.specs.Instance.{GivenModule, instance_of}
+use Rattle.gb_mods.specs.Meets.{Known}
 use Rattle.gb_elab_mod.specs.OtherLocals.{reads_other_locals}
 use Rattle.gb_elab_mod.specs.Multiples.{no_such}
 use Rattle.gb_elab_mod.specs.Taken.{is_taken}
@@ -90,26 +93,91 @@ abbrev pub about_memory : ℕ → Term → Term
 about_memory m f = node AllMemory (term_changed f (ToSide (side.Memory m) (side.Bound 0) ∷ []) ∷ []) bool_ty
 
 -- What is said of the variables and memories of the context from these numbers on, said of all by a leading `forall` for each binder. The
--- binders of a statement are as many, one for each variable and each memory; of others nothing is said.
+-- binders of a statement for these are as many, one for each variable and each memory; of others nothing is said.
 unfoldable pub about_all : List Binder → List TypedName → List (List ℕ) → ℕ → ℕ → Term → Option Term
 about_all [] [] [] i m f = Some f
 about_all (Value ∷ ks) (v ∷ vs) ms i m f = option_map (about_value i v.ty) (about_all ks vs ms (i + 1) m f)
 about_all (Memory ∷ ks) vs (x ∷ ms) i m f = option_map (about_memory m) (about_all ks vs ms i (m + 1) f)
 about_all ks vs ms i m f = None
 
+-- what a statement says, said of all that these binders are for
+abbrev pub about_statement : List Binder → Sequent → Option Term
+about_statement ks s = about_all ks s.logical s.memories 0 0 s.conclusion
+
 -- what a form with leading `forall`s for binders says of arguments: of one for each of them, and of further ones
 abbrev pub said_on : Declarations → Sequent → List Binder → List Node → Place → Term → Answer Term
 said_on ds q ks es p f = if nat_lt (length es) (length ks) then refused Argument p else said_of_all ds q f es
 
--- modules in a statement aren't built yet
-abbrev pub without_modules : List Bind → Answer Term → Place → Answer Term
-without_modules [] a p = a
-without_modules bs a p = not_built p
+-- what a statement that binds no modules says of arguments
+abbrev pub said_plainly : Declarations → Sequent → List Binder → Sequent → List Node → Place → Answer Term
+said_plainly ds q ks s es p = option_map_or (said_on ds q ks es p) (about_statement ks s) (not_built p)
+
+-- Modules.
+
+-- brackets may stand round a module expression
+abbrev pub inside : Kind → List Node → Node → Node
+inside text.Bracketed (t ∷ []) a = t
+inside _ ps a = a
+
+-- the module that an argument is
+abbrev pub module_given : Declarations → Sequent → Node → Answer Known
+module_given ds q a = module_at (inside (head_of a) (parts_of a) a) (ambient ds q) []
+
+abbrev pub is_module : Binder → Bool
+is_module Module = true
+is_module _ = false
+
+-- the binders for values and memories
+abbrev pub other_binders : List Binder → List Binder
+other_binders ks = filter (λ k. not (is_module k)) ks
+
+-- the next argument, where these binders are left, is for a module
+abbrev pub is_for_module : List Binder → Bool
+is_for_module [] = false
+is_for_module (k ∷ ks) = is_module k
+
+-- the binders that are left behind the next argument
+abbrev pub rest_of : List Binder → List Binder
+rest_of [] = []
+rest_of (k ∷ ks) = ks
+
+-- the arguments that aren't for modules
+abbrev pub other_arguments : List Binder → List Node → List Node
+other_arguments ks [] = []
+other_arguments ks (a ∷ es) = if is_for_module ks then other_arguments (rest_of ks) es else a ∷ other_arguments (rest_of ks) es
+
+abbrev pub with_given : Node → Known → List GivenModule → List GivenModule
+with_given a k ks = (k, place_of a) ∷ ks
+
+-- The modules that arguments give for the binders of a statement, in order. The other arguments are looked at in their places: those of a
+-- form with leading `forall`s, which says the same of any modules.
+unfoldable pub modules_given : Declarations → Sequent → List Binder → Term → List Node → Answer (List GivenModule)
+modules_given ds q ks f [] = given []
+modules_given ds q ks f (a ∷ es) =
+    if is_for_module ks then module_given ds q a >>= (λ m. modules_given ds q (rest_of ks) f es >>= λ ms. given (with_given a m ms))
+    else said_of ds q (out-Term f).head (out-Term f).args a >>= λ g. modules_given ds q (rest_of ks) g es
+
+-- what a statement says of modules that are given, and then of the other arguments
+abbrev pub said_of_modules : Declarations → Sequent → List Binder → Sequent → List Node → Place → List GivenModule → Answer Term
+said_of_modules ds q ks s es p ms =
+    instance_of ds s ms p
+    >>= λ t. option_map_or (λ f. said_of_all ds q f (other_arguments ks es)) (about_statement (other_binders ks) t) (not_built p)
+
+abbrev pub said_about : Declarations → Sequent → List Binder → Sequent → List Node → Place → Term → Answer Term
+said_about ds q ks s es p f =
+    if nat_lt (length es) (length ks) then refused Argument p else modules_given ds q ks f es >>= said_of_modules ds q ks s es p
+
+-- what a statement that binds modules says of arguments
+abbrev pub said_with_modules : Declarations → Sequent → List Binder → Sequent → List Node → Place → Answer Term
+said_with_modules ds q ks s es p = option_map_or (said_about ds q ks s es p) (about_statement (other_binders ks) s) (not_built p)
+
+abbrev pub by_modules : {A : Type 0} → List Bind → A → A → A
+by_modules [] a b = a
+by_modules bs a b = b
 
 -- what a statement with these binders says of arguments
 abbrev pub said_by : Declarations → Sequent → List Binder → Sequent → List Node → Place → Answer Term
-said_by ds q ks s es p =
-    without_modules s.modules (option_map_or (said_on ds q ks es p) (about_all ks s.logical s.memories 0 0 s.conclusion) (not_built p)) p
+said_by ds q ks s es p = by_modules s.modules (said_plainly ds q ks s es p) (said_with_modules ds q ks s es p)
 
 -- the lemma of a name that nothing of the context has
 abbrev pub lemma_named : Declarations → Sequent → List ℕ → Option Sequent

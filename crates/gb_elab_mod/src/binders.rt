@@ -43,6 +43,10 @@ fn with_binder(
             all.push(Binder::Memory)?;
             Ok(all)
         }
+        Head::ModuleBind => {
+            all.push(Binder::Module)?;
+            Ok(all)
+        }
         _ => Ok(all),
     }
 }

@@ -1,15 +1,17 @@
 // The typing of hypotheses and lemmas that steps use, with their arguments.
 
-ghost use Rattle.std.specs.Prelude.{◌≡◌, [], ◌∷◌, ◌+◌, IfOk};
+ghost use Rattle.std.specs.Prelude.{◌≡◌, [], ◌∷◌, ◌+◌, map, IfOk};
 ghost use Rattle.std.specs.Option.{option_copied};
 ghost use Rattle.gb_terms.specs.declared.term.Term.{out-Term};
 ghost use Rattle.gb_walk.specs.declared.change.Change.TheVariants.{OfBound};
 ghost use Rattle.gb_walk.specs.Change.{term_changed};
-ghost use Rattle.gb_goal.specs.Answers.{Answers, ◌>>=◌ as ◌and_then◌};
+ghost use Rattle.gb_goal.specs.Answers.{Answers, Gives, ◌>>=◌ as ◌and_then◌};
+ghost use Rattle.gb_mods.specs.Meets.{known_seen};
+ghost use Rattle.gb_instances.specs.Instance.{given_seen};
 ghost use Rattle.gb_goal.specs.Answers.Answer.{given};
 ghost use Rattle.gb_script.specs.Tree.{head_of, text_of, parts_of, place_of};
 ghost use Rattle.gb_elab_mod.specs.Taken.{new_name};
-ghost use Rattle.gb_elab_mod.specs.Uses.{about_all, about_memory, about_named, about_value, all_hinted, hinted, hypothesis_named, hypothesis, is_memory, lemma_named, memory_of, name_of, said_by, said_of, said_of_all, said_of_memory, said_on, used, used_named, used_of, value_of};
+ghost use Rattle.gb_elab_mod.specs.Uses.{about_all, about_memory, about_named, about_statement, about_value, all_hinted, hinted, hypothesis_named, hypothesis, inside, is_for_module, is_memory, is_module, lemma_named, memory_of, module_given, modules_given, name_of, other_arguments, other_binders, rest_of, said_about, said_by, said_of, said_of_all, said_of_memory, said_of_modules, said_on, said_plainly, said_with_modules, used, used_named, used_of, value_of};
 
 use crate::conclusions::{check_new, is_taken};
 use crate::multiples::no_such;
@@ -23,7 +25,10 @@ use gb_core::ty::Ty;
 use gb_elab::form::term;
 use gb_goal::scope::{Binder, Scope};
 use gb_goal::sequent::{Hyp, Sequent};
+use gb_instances::instance::{Given, instance_of};
+use gb_mods::meets::Known;
 use gb_names::memories::memory_at;
+use gb_names::modules::module_at;
 use gb_names::names::path;
 use gb_names::refusals::{argument, not_built};
 use gb_names::setting::Setting;
@@ -264,7 +269,234 @@ fn said_on(
     said_of_all(alloc, scope, goal, form, arguments)
 }
 
-/// What a statement with these binders says of arguments. Modules in it aren't built yet.
+/// What a statement says, said of all that these binders are for.
+fn about_statement(
+    alloc: Global,
+    binders: &[Binder],
+    statement: &Sequent,
+) -> Result<Option<Form>, AllocError>
+    ensures { IfOk result (λ made. made ≡ about_statement binders.now statement.now) }
+{
+    let values = statement.logical.as_slice();
+    let memories = statement.memories.as_slice();
+    about_all(
+        alloc,
+        binders,
+        values,
+        memories,
+        0,
+        0,
+        &statement.conclusion,
+    )
+}
+
+/// What a statement that binds no modules says of arguments.
+fn said_plainly(
+    alloc: Global,
+    scope: &Scope,
+    goal: &Sequent,
+    binders: &[Binder],
+    lemma: &Sequent,
+    arguments: &[Node],
+    place: Place,
+) -> Result<Form, Refused>
+    ensures { Answers (said_plainly scope.now goal.now binders.now lemma.now arguments.now place) result }
+{
+    match about_statement(alloc, binders, lemma)? {
+        Some(form) => said_on(alloc, scope, goal, binders, arguments, place, form),
+        None => Err(not_built(place)),
+    }
+}
+
+/// What stands in the brackets round a module expression, if there are any.
+fn inside(tree: &Node) -> &Node
+    ensures { result.now ≡ inside (head_of tree.now) (parts_of tree.now) tree.now }
+{
+    match (tree.head, tree.parts.as_slice()) {
+        (NodeHead::Bracketed, [inner]) => inner,
+        _ => tree,
+    }
+}
+
+/// The module that an argument is.
+fn module_given<'a>(
+    alloc: Global,
+    scope: &'a Scope,
+    goal: &'a Sequent,
+    tree: &Node,
+) -> Result<Known<'a>, Refused>
+    ensures { Gives known_seen (module_given scope.now goal.now tree.now) result }
+{
+    let at = Setting::ambient(scope, goal);
+    module_at(alloc, &at, &[], inside(tree))
+}
+
+fn is_module(binder: Binder) -> bool
+    ensures { result ≡ is_module binder }
+{
+    matches!(binder, Binder::Module)
+}
+
+/// The binders for values and memories.
+fn other_binders(alloc: Global, binders: &[Binder]) -> Result<Items<Binder>, AllocError>
+    ensures { IfOk result (λ made. made ≡ other_binders binders.now) }
+{
+    let mut all = Items::new(alloc);
+    for binder in binders {
+        if !is_module(*binder) {
+            all.push(*binder)?;
+        }
+    }
+    Ok(all)
+}
+
+/// Whether the next argument, where these binders are left, is for a module.
+fn is_for_module(binders: &[Binder]) -> bool
+    ensures { result ≡ is_for_module binders.now }
+{
+    match binders {
+        [binder, ..] => is_module(*binder),
+        [] => false,
+    }
+}
+
+/// The binders that are left behind the next argument.
+fn rest_of(binders: &[Binder]) -> &[Binder]
+    ensures { result.now ≡ rest_of binders.now }
+{
+    match binders {
+        [_, rest @ ..] => rest,
+        [] => binders,
+    }
+}
+
+/// The modules that arguments give for the binders of a statement, in order. The other arguments are looked at in their places, as those of
+/// a form with leading `forall`s, which says the same of any modules.
+#[tactic(auto, unfolding(crate::specs::Uses::modules_given))]
+fn modules_given<'a>(
+    alloc: Global,
+    scope: &'a Scope,
+    goal: &'a Sequent,
+    binders: &[Binder],
+    form: Form,
+    arguments: &[Node],
+) -> Result<Items<Given<'a>>, Refused>
+    ensures { Gives (map given_seen) (modules_given scope.now goal.now binders.now form arguments.now) result }
+{
+    let mut all = Items::new(alloc);
+    let mut said = form;
+    let mut left = binders;
+    for argument in arguments {
+        if is_for_module(left) {
+            let known = module_given(alloc, scope, goal, argument)?;
+            let place = argument.place;
+            all.push(Given { known, place })?;
+        } else {
+            said = said_of(alloc, scope, goal, &said, argument)?;
+        }
+        left = rest_of(left);
+    }
+    Ok(all)
+}
+
+/// What a form says of the arguments that aren't for modules, one after another.
+#[tactic(auto, unfolding(crate::specs::Uses::said_of_all))]
+fn said_of_others(
+    alloc: Global,
+    scope: &Scope,
+    goal: &Sequent,
+    binders: &[Binder],
+    form: Form,
+    arguments: &[Node],
+) -> Result<Form, Refused>
+    ensures { Answers (said_of_all scope.now goal.now form (other_arguments binders.now arguments.now)) result }
+{
+    let mut said = form;
+    let mut left = binders;
+    for argument in arguments {
+        match left {
+            [binder, rest @ ..] => {
+                if !is_module(*binder) {
+                    said = said_of(alloc, scope, goal, &said, argument)?;
+                }
+                left = rest;
+            }
+            [] => said = said_of(alloc, scope, goal, &said, argument)?,
+        }
+    }
+    Ok(said)
+}
+
+/// What a statement says of modules that are given, and then of the other arguments.
+fn said_of_modules(
+    alloc: Global,
+    scope: &Scope,
+    goal: &Sequent,
+    binders: &[Binder],
+    lemma: &Sequent,
+    arguments: &[Node],
+    place: Place,
+    given: &[Given<'_>],
+) -> Result<Form, Refused>
+    ensures { Answers (said_of_modules scope.now goal.now binders.now lemma.now arguments.now place (map given_seen given.now)) result }
+{
+    let instance = instance_of(alloc, scope, lemma, given, place)?;
+    let others = other_binders(alloc, binders)?;
+    match about_statement(alloc, others.as_slice(), &instance)? {
+        Some(form) => said_of_others(alloc, scope, goal, binders, form, arguments),
+        None => Err(not_built(place)),
+    }
+}
+
+/// The same, where modules are among the arguments: what the statement says of all that its other binders are for.
+fn said_about(
+    alloc: Global,
+    scope: &Scope,
+    goal: &Sequent,
+    binders: &[Binder],
+    lemma: &Sequent,
+    arguments: &[Node],
+    place: Place,
+    form: Form,
+) -> Result<Form, Refused>
+    ensures { Answers (said_about scope.now goal.now binders.now lemma.now arguments.now place form) result }
+{
+    if arguments.len() < binders.len() {
+        return Err(argument(place));
+    }
+    let given = modules_given(alloc, scope, goal, binders, form, arguments)?;
+    said_of_modules(
+        alloc,
+        scope,
+        goal,
+        binders,
+        lemma,
+        arguments,
+        place,
+        given.as_slice(),
+    )
+}
+
+/// What a statement that binds modules says of arguments.
+fn said_with_modules(
+    alloc: Global,
+    scope: &Scope,
+    goal: &Sequent,
+    binders: &[Binder],
+    lemma: &Sequent,
+    arguments: &[Node],
+    place: Place,
+) -> Result<Form, Refused>
+    ensures { Answers (said_with_modules scope.now goal.now binders.now lemma.now arguments.now place) result }
+{
+    let others = other_binders(alloc, binders)?;
+    match about_statement(alloc, others.as_slice(), lemma)? {
+        Some(form) => said_about(alloc, scope, goal, binders, lemma, arguments, place, form),
+        None => Err(not_built(place)),
+    }
+}
+
+/// What a statement with these binders says of arguments.
 fn said_by(
     alloc: Global,
     scope: &Scope,
@@ -277,15 +509,8 @@ fn said_by(
     ensures { Answers (said_by scope.now goal.now binders.now lemma.now arguments.now place) result }
 {
     match lemma.modules.as_slice() {
-        [] => {
-            let values = lemma.logical.as_slice();
-            let memories = lemma.memories.as_slice();
-            match about_all(alloc, binders, values, memories, 0, 0, &lemma.conclusion)? {
-                Some(form) => said_on(alloc, scope, goal, binders, arguments, place, form),
-                None => Err(not_built(place)),
-            }
-        }
-        _ => Err(not_built(place)),
+        [] => said_plainly(alloc, scope, goal, binders, lemma, arguments, place),
+        _ => said_with_modules(alloc, scope, goal, binders, lemma, arguments, place),
     }
 }
 

@@ -28,7 +28,7 @@ fn with_name(alloc: Global, found: Names, name: &Name) -> Result<Names, AllocErr
 
 /// Names behind others: those of the modules in a module expression.
 #[cycle(names_in)]
-fn names_in(alloc: Global, found: Names, module: &Mexp) -> Result<Names, AllocError>
+pub fn names_in(alloc: Global, found: Names, module: &Mexp) -> Result<Names, AllocError>
     ensures { IfOk result (λ made. made ≡ found ++ names_in «module».now) }
 {
     match module {

@@ -268,9 +268,9 @@ fn oracles_loss<'a>(known: &[Known<'a>], list: &[Shared<ProcRef>]) -> Losing<'a>
 
 /// A procedure that is reached, and what it stands for.
 #[derive(Drop)]
-struct Reached {
-    procedure: Shared<ProcRef>,
-    meant: Meant,
+pub struct Reached {
+    pub procedure: Shared<ProcRef>,
+    pub meant: Meant,
 }
 
 impl Reached {
@@ -405,6 +405,20 @@ fn loss_of(
 {
     let known = losses(alloc, scope, full, reached)?;
     known_of(known.as_slice(), procedure).copy(alloc)
+}
+
+/// Where the first of these procedures that may lose weight loses it, where the reached ones have all among them that these call.
+pub fn first_of(
+    alloc: Global,
+    scope: &Scope,
+    reached: &[Reached],
+    list: &[Shared<ProcRef>],
+) -> Result<Loss, AllocError>
+    ensures { IfOk result (λ lost. loss_seen lost ≡ oracles_loss (losses scope.now (full_operators scope.now) (map reached_seen reached.now)) list.now) }
+{
+    let full = full_operators(alloc, scope)?;
+    let known = losses(alloc, scope, full.as_slice(), reached)?;
+    oracles_loss(known.as_slice(), list).copy(alloc)
 }
 
 /// Where a procedure may lose weight first, with what it calls.

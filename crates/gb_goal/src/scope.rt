@@ -61,6 +61,7 @@ impl Drop for OperatorType {
 pub enum Binder {
     Value,
     Memory,
+    Module,
 }
 
 /// What the binders of a lemma bind, in the order of the text.

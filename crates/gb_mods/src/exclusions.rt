@@ -14,7 +14,7 @@ use sqlite_items::Items;
 use std::alloc::{AllocError, Global};
 
 /// Variables behind others: the globals that a module of this name declares.
-fn own_globals(
+pub fn own_globals(
     alloc: Global,
     found: Vars,
     module: &Name,

@@ -63,7 +63,7 @@ pub fn references(
 }
 
 /// Procedures of an abstract module.
-fn signed(alloc: Global, module: &Mexp, list: &[Signature]) -> Result<Procedures, AllocError>
+pub fn signed(alloc: Global, module: &Mexp, list: &[Signature]) -> Result<Procedures, AllocError>
     ensures { IfOk result (λ made. made ≡ signed «module».now list.now) }
 {
     let mut all = Items::new(alloc);

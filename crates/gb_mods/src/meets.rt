@@ -101,7 +101,7 @@ fn open_name(alloc: Global, name: &Name) -> Result<Name, AllocError>
 }
 
 /// Modules in place of these parameters.
-fn left_open(alloc: Global, params: &[Param]) -> Result<Mexps, AllocError>
+pub fn left_open(alloc: Global, params: &[Param]) -> Result<Mexps, AllocError>
     ensures { IfOk result (λ made. made ≡ left_open params.now) }
 {
     let mut all = Items::new(alloc);

@@ -286,12 +286,12 @@ pub fn global_variable(
     alloc: Global,
     side: Side,
     global: ModuleVariable<'_>,
-) -> Result<Term, Refused>
-    ensures { Answers (given (global_variable side (global.entry.owner, global.entry.variable.now))) result }
+) -> Result<Term, AllocError>
+    ensures { IfOk result (λ made. made ≡ global_variable side (global.entry.owner, global.entry.variable.now)) }
 {
     let ty = global.variable.ty.share()?;
     let var = global.into_var(alloc)?;
-    Ok(make::variable(alloc, var, side, ty)?)
+    make::variable(alloc, var, side, ty)
 }
 
 /// A read of a global through a memory, where its module may be named.
@@ -305,7 +305,7 @@ pub fn read_global(
     ensures { Answers (read_global (environment at.now) side place (global.entry.owner, global.entry.variable.now)) result }
 {
     check_ended(alloc, at, &global.owner, place)?;
-    global_variable(alloc, side, global)
+    Ok(global_variable(alloc, side, global)?)
 }
 
 /// Whether a program with a memory of its own is around.
@@ -329,7 +329,7 @@ pub fn unsided(
 {
     check_ended(alloc, at, &global.owner, place)?;
     if has_own(&at.variables) {
-        global_variable(alloc, Side::Own, global)
+        Ok(global_variable(alloc, Side::Own, global)?)
     } else {
         Err(argument(place))
     }

@@ -57,3 +57,4 @@ pub mod PlainSteps
 pub mod Kept
 pub mod LiteralsShown
 pub mod WordsInFront
+pub mod Unblank

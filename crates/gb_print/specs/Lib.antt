@@ -9,3 +9,4 @@ pub mod Forms
 pub mod Goals
 pub mod Written
 pub mod ReadBack
+pub mod Blank

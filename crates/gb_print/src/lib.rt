@@ -7,3 +7,4 @@ pub mod goal;
 pub mod laws;
 mod layout;
 mod literals;
+pub mod text_laws;

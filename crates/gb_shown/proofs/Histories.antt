@@ -7,6 +7,8 @@ use Rattle.gb_goal.specs.Binders.{binder_entries, with_declared_modules}
 use Rattle.gb_goal.specs.Scope.{Declarations}
 use Rattle.gb_goal.specs.declared.sequent.Sequent.{Sequent}
 use Rattle.gb_script.specs.declared.tree.Node.{Node}
+use Rattle.gb_script.specs.Each.{Each}
+use Rattle.gb_print.specs.Blank.{IsUnblank}
 use Rattle.gb_script.specs.Tree.{head_of, parts_of, place_of}
 use Rattle.gb_elab_laws.proofs.Given.{given_bind, given_is}
 use Rattle.gb_typing.proofs.DeclaredModules.{goal_bound, goal_declared}
@@ -23,7 +25,7 @@ use Rattle.gb_accepted.proofs.Claims.{claim_continues, claim_scope}
 use Rattle.gb_accepted.proofs.Given.{given_after}
 use Rattle.gb_accepted.proofs.Good.{IsGoodClaim, IsGoodIfOpen}
 use Rattle.gb_accepted.proofs.Grounds.{Grounds, IsTyped, IsTypedGoalOf}
-use Rattle.gb_accepted.proofs.Runs.{command_keeps}
+use Rattle.gb_accepted.proofs.Runs.{command_keeps, read_unblank}
 use Rattle.gb_shown.specs.Shown.{IsFirstReadBack, IsReached, IsReadBack, IsReadBackIn}
 use Rattle.gb_shown.specs.Shown.IsReached.{begun, entered, run}
 use Rattle.gb_shown.proofs.Commands.{command_named}
@@ -59,29 +61,31 @@ typed_in_context : (ds : Declarations) (c : Claim) → IsTyped (seen_in ds c) �
 typed_in_context ds c scoped q t alone = goal_bound ds (in_context c q) scoped (typed_alone (seen_in ds c) q t alone)
 
 module _ (o : Grounds) (names : Names) where
-  after_named : (s : Stage) → IsNamedStage s → (c : Node) → IsReadTree c → (next : Session) → ComesTo s.session c (given next) → IsNamedStage (stage_after s c next)
-  after_named s k c read next e = record { good = command_keeps o s.session c next k.good e; named = command_named o names s.enumerations s.session k.good k.named c read next e }
+  after_named : (s : Stage) → IsNamedStage s → (c : Node) → IsReadTree c → Each IsUnblank c → (next : Session) → ComesTo s.session c (given next) → IsNamedStage (stage_after s c next)
+  after_named s k c read u next e = record { good = command_keeps o s.session c next k.good u e; named = command_named o names s.enumerations s.session k.good k.named c read next e }
 
-  command_leads : (h : History) → IsNamedHistory h → (c : Node) → IsReadTree c → (next : History) → CommandLeads h c (given next) → IsNamedHistory next
-  command_leads h k c read next e =
+  command_leads : (h : History) → IsNamedHistory h → (c : Node) → IsReadTree c → Each IsUnblank c → (next : History) → CommandLeads h c (given next) → IsNamedHistory next
+  command_leads h k c read u next e =
       let a = given_after (within (kept_limit h) (place_of c)) (λ _. LeadsOn h c) next e in
       let x = a.2 in
       let b = given_bind x.0 (λ s. given (moved_on h (stage_after h.present c s))) next (sym x.2) in
-      subst IsNamedHistory (given_is _ next b.2) (moved_named h (stage_after h.present c b.0) k (after_named h.present k.present c read b.0 (subst (ComesTo h.present.session c) b.1 x.1)))
+      subst IsNamedHistory (given_is _ next b.2) (moved_named h (stage_after h.present c b.0) k (after_named h.present k.present c read u b.0 (subst (ComesTo h.present.session c) b.1 x.1)))
 
-  line_by : (n : Option ℕ) (h : History) → IsNamedHistory h → (c : Node) → IsReadTree c → (next : History) → LineLeadsBy n h c (given next) → IsNamedHistory next
-  line_by (Some n) h k c read next e = subst IsNamedHistory (sym (given_is _ _ e)) (undone_named n h k)
-  line_by None h k c read next e = command_leads h k c read next e
+  line_by : (n : Option ℕ) (h : History) → IsNamedHistory h → (c : Node) → IsReadTree c → Each IsUnblank c → (next : History) → LineLeadsBy n h c (given next) → IsNamedHistory next
+  line_by (Some n) h k c read u next e = subst IsNamedHistory (sym (given_is _ _ e)) (undone_named n h k)
+  line_by None h k c read u next e = command_leads h k c read u next e
 
   -- what a text is read as leads on
   entry_leads : (h : History) → IsNamedHistory h → (text : List ℕ) (at : Place) (next : History) → EntryLeads h text at (given next) → IsNamedHistory next
   entry_leads h k text at next e =
       let a = given_after e.0 (LineLeads h) next e.2 in
-      line_by (taken_by (head_of a.0) (parts_of a.0)) h k a.0 (names.scripts.read text at a.0 (subst (IsReadAs text at) a.1 e.1)) next a.2
+      line_by (taken_by (head_of a.0) (parts_of a.0)) h k a.0 (names.scripts.read text at a.0 (subst (IsReadAs text at) a.1 e.1))
+      (read_unblank o text at a.0 (subst (IsReadAs text at) a.1 e.1)) next a.2
 
   text_leads : (h : History) → IsNamedHistory h → (text : List ℕ) (at : Place) (next : History) → TextLeads h text at (given next) → IsNamedHistory next
   text_leads h k text at next e =
-      let a = given_after e.0 (CommandLeads h) next e.2 in command_leads h k a.0 (names.scripts.read text at a.0 (subst (IsReadAs text at) a.1 e.1)) next a.2
+      let a = given_after e.0 (CommandLeads h) next e.2 in command_leads h k a.0 (names.scripts.read text at a.0 (subst (IsReadAs text at) a.1 e.1))
+      (read_unblank o text at a.0 (subst (IsReadAs text at) a.1 e.1)) next a.2
 
   pub reached_named : {h : History} → IsReached h → IsNamedHistory h
   reached_named (begun file keeps) = record { present = fresh_is_named; earlier = tt }

@@ -118,7 +118,7 @@ module _ (f : Name → Mexp) (good : (x : Name) → is_path x ≡ true → IsWri
     all_written end_of-Mexp k = tt
     all_written (more_of-Mexp m r) k = (put_written m k.0, all_written r k.1)
 
-  reference_written : (p : ProcRef) → IsWrittenProcedure [] p → IsWrittenProcedure [] (put_in_reference f p)
+  pub reference_written : (p : ProcRef) → IsWrittenProcedure [] p → IsWrittenProcedure [] (put_in_reference f p)
   reference_written p h = record { module_is = put_written p.«module» h.module_is; name_is = h.name_is }
 
   module _ (es : List Enumeration) where

@@ -25,7 +25,7 @@ use Rattle.gb_script.specs.declared.tree.Node.{Node}
 use Rattle.gb_script.specs.Tree.{head_of, place_of, text_of}
 use Rattle.gb_goal.specs.Answers.Answer.{given, refused}
 use Rattle.gb_goal.specs.Instances.{name_of}
-use Rattle.gb_goal.specs.Scope.{abstract_of, as_abstract, entry_of, module_of}
+use Rattle.gb_goal.specs.Scope.{Declarations, abstract_of, as_abstract, entry_of, module_of}
 use Rattle.gb_goal.specs.declared.scope.Entry.{Entry}
 use Rattle.gb_names.specs.declared.bindings.Binding.{Binding}
 use Rattle.gb_names.specs.declared.bindings.Kind.{Kind}
@@ -43,7 +43,7 @@ use Rattle.gb_print_names.specs.declared.bound_names.Enumeration.{Enumeration}
 use Rattle.gb_print.specs.Written.{is_path, is_target_here}
 use Rattle.gb_shown.specs.Named.{IsNamedType, IsNamed, IsNamedVariable}
 use Rattle.gb_shown.proofs.SpeltTrees.{node_named}
-use Rattle.gb_shown.specs.Scopes.{IsNamedModule, IsNamedAround, IsNamedLocal, AreNamedVariables, IsNamedSetting, IsNamedKind, AreNamedBindings}
+use Rattle.gb_shown.specs.Scopes.{IsNamedModule, IsNamedScope, IsNamedAround, IsNamedLocal, AreNamedVariables, IsNamedSetting, IsNamedKind, AreNamedBindings}
 use Rattle.gb_shown.proofs.Given.{given_bind, given_is, not_given, if_allowed, if_refused, same_some, chosen, both_true}
 use Rattle.gb_shown.proofs.Types.{as_result}
 use Rattle.gb_shown.proofs.FoundInForms.{path_of, variable_found, binding_found, module_found}
@@ -102,6 +102,16 @@ module _ (es : List Enumeration) where
       let named = h m refl in
       subst IsNamedGlobal k.2 (p, variable_found IsNamedVariable m.globals x k.0 named.globals k.1)
 
+  module _ (ds : Declarations) (scope : IsNamedScope es ds) where
+    -- an abstract module that is declared has a path
+    abstract_path : (a : Name) (o : Option Entry) → entry_of ds a ≡ o → is_some (as_abstract o) ≡ true → is_path a ≡ true
+    abstract_path a (Some e) i h = name_found es ds scope a e i
+    abstract_path a None i h = cc
+
+    -- .. and all its globals are read under it
+    pub whole_named : (s : Side) (a : Name) → is_some (abstract_of ds a) ≡ true → IsNamed es (whole_value s a)
+    whole_named s a h = let p = abstract_path a (entry_of ds a) refl h in node_named es (Read (read_of.Program (Glob a) s)) [] (ty.Glob a) (p, p) p tt
+
   module _ (at : Environment) (fit : IsNamedSetting es at) where
     own_found : (o : Option Module) (x : Name) (g : ModuleVariable) → IsNamedAround es o → own_global o x ≡ Some g → IsNamedGlobal g
     own_found None x g h e = cc
@@ -140,16 +150,6 @@ module _ (es : List Enumeration) where
     unbound_read : (bs : List Binding) (x : Name) (p : Place) (u : Term) → unbound at bs x p ≡ given u → IsNamed es u
     unbound_read bs x p u h = let k = if_refused (names_other at bs x) Argument p (refused (UnknownName x) p) u h in absurd (not_given (UnknownName x) p u k.1)
 
-    -- an abstract module that is declared has a path
-    abstract_path : (a : Name) (o : Option Entry) → entry_of at.declared a ≡ o → is_some (as_abstract o) ≡ true → is_path a ≡ true
-    abstract_path a (Some e) i h = name_found es at.declared fit.scope a e i
-    abstract_path a None i h = cc
-
-    -- .. and all its globals are read under it
-    pub whole_named : (s : Side) (a : Name) → is_some (abstract_of at.declared a) ≡ true → IsNamed es (whole_value s a)
-    whole_named s a h =
-        let p = abstract_path a (entry_of at.declared a) refl h in node_named es (Read (read_of.Program (Glob a) s)) [] (ty.Glob a) (p, p) p tt
-
     abstract_name : (m : Mexp) → is_abstract at.declared m ≡ true → is_some (abstract_of at.declared (name_of m)) ≡ true
     abstract_name (module_name a) e = e
     abstract_name (Apply' n k args) e = cc
@@ -157,7 +157,7 @@ module _ (es : List Enumeration) where
     as_value_named : (m : Mexp × Side) (p : Place) (u : Term) → as_value at.declared m p ≡ given u → IsNamed es u
     as_value_named m p u e =
         let k = if_allowed (is_abstract at.declared m.0) (given (whole_value m.1 (name_of m.0))) Argument p u e in
-        subst (IsNamed es) (given_is (whole_value m.1 (name_of m.0)) u k.1) (whole_named m.1 (name_of m.0) (abstract_name m.0 k.0))
+        subst (IsNamed es) (given_is (whole_value m.1 (name_of m.0)) u k.1) (whole_named at.declared fit.scope m.1 (name_of m.0) (abstract_name m.0 k.0))
 
     module _ (bs : List Binding) (bound : AreNamedBindings bs) where
       -- a name without a side

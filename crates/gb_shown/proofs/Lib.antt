@@ -73,6 +73,8 @@ mod Members
 mod Entries
 mod Lemmas
 mod Occurring
+mod PutNames
+mod GivenNames
 mod Used
 mod BodyRules
 mod Rules

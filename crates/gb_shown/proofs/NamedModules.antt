@@ -100,7 +100,7 @@ module _ (es : List Enumeration) (at : Environment) (fit : IsNamedSetting es at)
   expression_right head.Apply x ks p k e = application_right ks p k e
   expression_right _ x ks p k e = cc
 
-  expression_named : (t : Node) → IsRight (module_at t)
+  pub expression_named : (t : Node) → IsRight (module_at t)
   unfolding read
   expression_named t = (by_parts read_by AreKnown (λ h x ks p. (expression_right h x ks p, all_right ks)) t).0
 

@@ -26,7 +26,7 @@ use Rattle.gb_theory.specs.Built.{Session, OpenProof}
 use Rattle.gb_theory.specs.Limits.{each_limit, all_limit}
 use Rattle.gb_theory.specs.Combinators.{done_at, works}
 use Rattle.gb_theory.specs.Commands.{within, Applied, allowed, RuleAnswers, continued, WorksOn}
-use Rattle.gb_accepted.proofs.Claims.{claim_continues, claim_scope}
+use Rattle.gb_accepted.proofs.Claims.{claim_continues, claim_scope, claim_unblank}
 use Rattle.gb_accepted.proofs.Given.{nothing_given, given_after}
 use Rattle.gb_accepted.proofs.Good.{IsGoodClaim, IsGood}
 use Rattle.gb_accepted.proofs.Grounds.{IsGoalThatEnds, Grounds, seen}
@@ -105,7 +105,7 @@ module _ (o : Grounds) (names : Names) (es : List Enumeration) (s : Session) (g 
       let bs = modules_of p.claim in
       let ds = seen s.scope bs in
       let b = given_bind (works ds w.0 t (q ∷ [])) (continued s p rest place) next (sym w.2) in
-      let known = each_kept o bs s g (claim_scope s g p.claim (q ∷ rest) h) in
+      let known = each_kept o bs s g (claim_unblank s.scope p.claim (q ∷ rest) h) (claim_scope s g p.claim (q ∷ rest) h) in
       let all = seen_named es s.scope scope bs (claim_modules es p.claim c) in
       let lead =
       tactic_keeps (IsWorked es ds) Any ds IsReadNode w.0 (λ m r u rs good e. rule_keeps bs known all m r u good rs (subst (RuleAnswers ds m u) e (w.1 m u)))

@@ -1,5 +1,5 @@
 -- What hypotheses and lemmas say of arguments.
-use Rattle.std.proofs.Common.{◌≡◌, ◌⊎◌, inl, inr, ℕ, ◌+◌, Bool, true, false, nat_lt, if◌then◌else◌, bytes_eq, List, [], ◌∷◌, length, Option, Some, None, refl, subst}
+use Rattle.std.proofs.Common.{◌≡◌, ℕ, ◌+◌, Bool, true, false, nat_lt, if◌then◌else◌, bytes_eq, List, [], ◌∷◌, length, Option, Some, None, refl, subst}
 use Rattle.std.specs.List.{AllByRecursion}
 use Rattle.std.specs.Option.{option_map, option_map_or}
 use Rattle.gb_core.specs.declared.place.Place.{Place}
@@ -16,11 +16,11 @@ use Rattle.gb_terms.specs.declared.term.Head.TheVariants as head
 use Rattle.gb_terms.specs.declared.term.Term.{Term, out-Term}
 use Rattle.gb_terms.specs.Make.{node}
 use Rattle.gb_walk.specs.declared.change.Change.TheVariants.{OfBound, ToTerm, ToSide}
-use Rattle.gb_goal.specs.Answers.{Answer, not_built}
+use Rattle.gb_goal.specs.Answers.{◌>>=◌, not_built}
 use Rattle.gb_goal.specs.Answers.Answer.{given, refused}
 use Rattle.gb_goal.specs.Scope.{Declarations, as_lemma, binders_of, entry_of, lemma_of}
 use Rattle.gb_goal.specs.declared.scope.Binder.{Binder}
-use Rattle.gb_goal.specs.declared.scope.Binder.TheVariants.{Value, Memory}
+use Rattle.gb_goal.specs.declared.scope.Binder.TheVariants.{Value, Memory, Module}
 use Rattle.gb_goal.specs.declared.scope.Entry.{Entry}
 use Rattle.gb_goal.specs.declared.scope.Entry.TheVariants as entry
 use Rattle.gb_goal.specs.declared.sequent.Hyp.{Hyp}
@@ -29,14 +29,17 @@ use Rattle.gb_script.specs.declared.head.Head.{Head as Kind}
 use Rattle.gb_script.specs.declared.head.Head.TheVariants as text
 use Rattle.gb_script.specs.declared.tree.Node.{Node}
 use Rattle.gb_script.specs.Tree.{head_of, text_of, parts_of, place_of}
+use Rattle.gb_mods.specs.Meets.{Known}
 use Rattle.gb_names.specs.Environment.{ambient}
 use Rattle.gb_elab.specs.Forms.{elaborated}
+use Rattle.gb_instances.specs.Instance.{GivenModule, instance_of, modules_of}
 use Rattle.gb_elab_mod.specs.Multiples.{no_such}
 use Rattle.gb_elab_mod.specs.OtherLocals.{reads_other_locals}
 use Rattle.gb_elab_mod.specs.Taken.{is_taken}
-use Rattle.gb_elab_mod.specs.Uses.{hypothesis_named, is_memory, value_of, memory_of, about_named, said_of, said_of_all, name_of, about_value, about_memory, about_all, said_on, without_modules, said_by, lemma_named, used_named, used_at, used, hypothesis}
-use Rattle.gb_elab_laws.proofs.Given.{given_bind, given_is, if_none, if_refused, if_unbuilt, map_or_given, none_some, same_some, some_given}
+use Rattle.gb_elab_mod.specs.Uses.{hypothesis_named, is_memory, value_of, memory_of, about_named, said_of, said_of_all, name_of, about_value, about_memory, about_all, about_statement, by_modules, inside, module_given, modules_given, other_arguments, other_binders, said_about, said_by, said_of_modules, said_on, said_plainly, said_with_modules, with_given, lemma_named, used_named, used_at, used, hypothesis}
+use Rattle.gb_elab_laws.proofs.Given.{given_bind, given_is, if_none, if_refused, if_unbuilt, none_some, same_some, some_given}
 use Rattle.gb_print_names.specs.declared.bound_names.Enumeration.{Enumeration}
+use Rattle.gb_print.specs.Written.{IsWrittenModule}
 use Rattle.gb_shown.specs.Named.{IsNamed, IsNamedType, IsNamedHead, IsNamedHyp, IsNamedVariable, IsNamedSequent}
 use Rattle.gb_shown.proofs.Changed.{changed_named}
 use Rattle.gb_shown.proofs.SpeltForms.{as_result}
@@ -44,6 +47,9 @@ use Rattle.gb_shown.proofs.SpeltTrees.{AllNamed, node_named, parts_named}
 use Rattle.gb_shown.specs.Scopes.{IsNamedEntry, IsNamedScope, IsNamedStatement}
 use Rattle.gb_shown.specs.Words.{IsReadTree}
 use Rattle.gb_shown.proofs.FoundInScopes.{entry_named}
+use Rattle.gb_shown.proofs.GivenNames.{instance_is_named}
+use Rattle.gb_shown.proofs.Instances.{EachWritten}
+use Rattle.gb_shown.proofs.NamedModules.{IsNamedKnown, expression_named}
 use Rattle.gb_shown.proofs.OfForms.{OfForms}
 use Rattle.gb_shown.proofs.Settings.{ambient_named}
 use Rattle.gb_shown.proofs.Trees.{AreRead, parts_read}
@@ -110,6 +116,7 @@ module _ (forms : OfForms) (es : List Enumeration) (ds : Declarations) (k : IsNa
   bound_named [] [] w [] i m f h g e = subst Named (same_some f g e) h
   bound_named [] [] w (x ∷ ms) i m f h g e = none_some g e
   bound_named [] (v ∷ vs) w ms i m f h g e = none_some g e
+  bound_named (Module ∷ bs) vs w ms i m f h g e = none_some g e
   bound_named (Value ∷ bs) (v ∷ vs) w ms i m f h g e =
       mapped (about_value i v.ty) (λ x y. value_bound i v.ty x w.0.1 y) (about_all bs vs ms (i + 1) m f) (λ x y. bound_named bs vs w.1 ms (i + 1) m f h x y) g e
   bound_named (Value ∷ bs) [] w ms i m f h g e = none_some g e
@@ -117,20 +124,66 @@ module _ (forms : OfForms) (es : List Enumeration) (ds : Declarations) (k : IsNa
       mapped (about_memory m) (λ x y. memory_bound m x y) (about_all bs vs ms i (m + 1) f) (λ x y. bound_named bs vs w ms i (m + 1) f h x y) g e
   bound_named (Memory ∷ bs) vs w [] i m f h g e = none_some g e
 
-  plain : (bs : List Bind) (a : Answer Term) (p : Place) (g : Term) → without_modules bs a p ≡ given g → a ≡ given g
-  plain [] a p g e = e
-  plain (b ∷ bs) a p g e = absurd (cc)
+  -- The modules that arguments give can be written.
 
-  lemma_says : (bs : List Binder) (s : Sequent) → IsNamedStatement es s → (xs : List Node) → AreRead xs → (p : Place) (g : Term) → said_by ds q bs s xs p ≡ given g → Named g
-  lemma_says bs s h xs r p g e = by_about (map_or_given (said_on ds q bs xs p) (about_all bs s.logical s.memories 0 0 s.conclusion) (not_built p) g (plain s.modules _ p g e))
-    where
-      by_about : ((x : Term) × (about_all bs s.logical s.memories 0 0 s.conclusion ≡ Some x) × (said_on ds q bs xs p x ≡ given g)) ⊎ ((about_all bs s.logical s.memories 0 0 s.conclusion ≡ None) × (not_built p ≡ given g)) → Named g
-      by_about (inl c) =
-          let x = c.0 in
-          let said = if_refused (nat_lt (length xs) (length bs)) Argument p (said_of_all ds q x xs) g c.2 in
-          let w = h.sequent in
-          all_said x (bound_named bs s.logical w.variables s.memories 0 0 s.conclusion h.conclusion x c.1) xs r g said.1
-      by_about (inr c) = absurd (none_built p g c.1)
+  module_written : (a : Node) (m : Known) → module_given ds q a ≡ given m → IsWrittenModule [] m.0
+  module_written a m e =
+      let known : IsNamedKnown m = expression_named es (ambient ds q) (ambient_named es ds k q n) [] (inside (head_of a) (parts_of a) a) m e in known.written
+
+  modules_written : (bs : List Binder) (f : Term) (xs : List Node) (ms : List GivenModule) → modules_given ds q bs f xs ≡ given ms → EachWritten (modules_of ms)
+  unfolding modules_given
+  modules_written bs f [] ms e = subst (λ (z : List GivenModule). EachWritten (modules_of z)) (given_is [] ms e) tt
+  modules_written [] f (a ∷ xs) ms e =
+      let y = given_bind (said_of ds q (out-Term f).head (out-Term f).args a) (λ g. modules_given ds q [] g xs) ms e in
+      modules_written [] y.0 xs ms y.2
+  modules_written (Module ∷ bs) f (a ∷ xs) ms e =
+      let y = given_bind (module_given ds q a) (λ m. modules_given ds q bs f xs >>= λ l. given (with_given a m l)) ms e in
+      let z = given_bind (modules_given ds q bs f xs) (λ l. given (with_given a y.0 l)) ms y.2 in
+      subst (λ (l : List GivenModule). EachWritten (modules_of l)) (given_is (with_given a y.0 z.0) ms z.2) (module_written a y.0 y.1, modules_written bs f xs z.0 z.1)
+  modules_written (Value ∷ bs) f (a ∷ xs) ms e =
+      let y = given_bind (said_of ds q (out-Term f).head (out-Term f).args a) (λ g. modules_given ds q bs g xs) ms e in
+      modules_written bs y.0 xs ms y.2
+  modules_written (Memory ∷ bs) f (a ∷ xs) ms e =
+      let y = given_bind (said_of ds q (out-Term f).head (out-Term f).args a) (λ g. modules_given ds q bs g xs) ms e in
+      modules_written bs y.0 xs ms y.2
+
+  others_read : (bs : List Binder) (xs : List Node) → AreRead xs → AreRead (other_arguments bs xs)
+  others_read bs [] r = tt
+  others_read [] (a ∷ xs) r = (r.0, others_read [] xs r.1)
+  others_read (Module ∷ bs) (a ∷ xs) r = others_read bs xs r.1
+  others_read (Value ∷ bs) (a ∷ xs) r = (r.0, others_read bs xs r.1)
+  others_read (Memory ∷ bs) (a ∷ xs) r = (r.0, others_read bs xs r.1)
+
+  -- what a statement without modules says of arguments
+  statement_says : (bs : List Binder) (s : Sequent) → IsNamedStatement es s → (f : Term) → about_statement bs s ≡ Some f → (xs : List Node) → AreRead xs → (g : Term) → said_of_all ds q f xs ≡ given g → Named g
+  statement_says bs s h f i xs r g e =
+      let w = h.sequent in all_said f (bound_named bs s.logical w.variables s.memories 0 0 s.conclusion h.conclusion f i) xs r g e
+
+  module _ (bs : List Binder) (s : Sequent) (h : IsNamedStatement es s) (xs : List Node) (r : AreRead xs) (p : Place) (g : Term) where
+    plainly : (o : Option Term) → about_statement bs s ≡ o → option_map_or (said_on ds q bs xs p) o (not_built p) ≡ given g → Named g
+    plainly None i e = absurd (none_built p g e)
+    plainly (Some f) i e = let said = if_refused (nat_lt (length xs) (length bs)) Argument p (said_of_all ds q f xs) g e in statement_says bs s h f i xs r g said.1
+
+    -- what is said of the modules that are given
+    of_instance : (t : Sequent) → IsNamedStatement es t → (o : Option Term) → about_statement (other_binders bs) t ≡ o → option_map_or (λ f. said_of_all ds q f (other_arguments bs xs)) o (not_built p) ≡ given g → Named g
+    of_instance t w None i e = absurd (none_built p g e)
+    of_instance t w (Some f) i e = statement_says (other_binders bs) t w f i (other_arguments bs xs) (others_read bs xs r) g e
+
+    with_bound : (o : Option Term) → option_map_or (said_about ds q bs s xs p) o (not_built p) ≡ given g → Named g
+    with_bound None e = absurd (none_built p g e)
+    with_bound (Some f) e =
+        let said = if_refused (nat_lt (length xs) (length bs)) Argument p _ g e in
+        let y = given_bind (modules_given ds q bs f xs) (said_of_modules ds q bs s xs p) g said.1 in
+        let z = given_bind (instance_of ds s y.0 p) (λ t. option_map_or (λ f. said_of_all ds q f (other_arguments bs xs)) (about_statement (other_binders bs) t) (not_built p)) g y.2 in
+        of_instance z.0 (instance_is_named es ds k s h y.0 (modules_written bs f xs y.0 y.1) p z.0 z.1) (about_statement (other_binders bs) z.0) refl z.2
+
+    by_bound : (l : List Bind) → by_modules l (said_plainly ds q bs s xs p) (said_with_modules ds q bs s xs p) ≡ given g → Named g
+    by_bound [] e = plainly (about_statement bs s) refl e
+    by_bound (b ∷ l) e = with_bound (about_statement (other_binders bs) s) e
+
+    -- what a lemma says
+    lemma_says : said_by ds q bs s xs p ≡ given g → Named g
+    lemma_says e = by_bound s.modules e
 
   as_lemma_named : (o : Option Entry) (s : Sequent) → ((e : Entry) → o ≡ Some e → IsNamedEntry es e) → as_lemma o ≡ Some s → IsNamedStatement es s
   as_lemma_named (Some (entry.Lemma t bs)) s l e = subst (IsNamedStatement es) (same_some t s e) (l (entry.Lemma t bs) refl)

@@ -5,7 +5,7 @@ ghost use Rattle.gb_shown.specs.Shown.{IsReached, IsReadBack};
 
 use gb_closing_laws::linear_laws::linear_is_sound;
 use gb_closing_laws::smt_laws::sound_smt;
-use gb_elab_laws::declaration_laws::{entries, lemmas, modules, statements};
+use gb_elab_laws::declaration_laws::{entries, lemmas, modules, names, statements};
 use gb_elab_laws::promise_laws::{equivalences_give_couplings, typed_scopes_have_models};
 use gb_elab_laws::stay_laws::{goals_stay, goals_stay_typed, parts_of_scopes};
 use gb_elab_laws::step_laws::{typed_forms, typed_rules};
@@ -22,6 +22,8 @@ pub fn shown_goals_are_read()
     modules();
     statements();
     lemmas();
+    names();
+    gb_print::text_laws::texts_begin_with_no_blank();
     typed_rules();
     typed_forms();
     typing();
@@ -72,6 +74,7 @@ pub fn shown_goals_are_read()
     goals_stay();
     goals_stay_typed();
     declared_modules();
+    gb_elab_laws::lemma_laws::instances();
     parts_of_scopes();
     crate::name_laws::steps();
     crate::name_laws::termination();

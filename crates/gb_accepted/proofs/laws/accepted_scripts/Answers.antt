@@ -28,6 +28,13 @@ returns c =
         abstract_rule = c.typed_rules.ensures.adversaries;
         probabilities_typed = c.typed_rules.ensures.probabilities;
       };
+      names = record {
+        texts = c.texts_begin_with_no_blank.ensures;
+        entries = c.names.ensures.entries;
+        modules = c.names.ensures.modules;
+        lemmas = c.names.ensures.lemmas;
+        statements = c.names.ensures.statements;
+      };
       rules = record {
         goal = c.typing.ensures.goal;
         front = c.fronts.ensures;
@@ -81,6 +88,7 @@ returns c =
         stay = c.goals_stay.ensures.scripts;
         stay_typed = c.goals_stay_typed.ensures;
         stay_seen = c.goals_stay.ensures.binders;
+        instances = c.instances.ensures;
         without_declared = c.declared_modules.ensures;
         parts = c.parts_of_scopes.ensures;
       };

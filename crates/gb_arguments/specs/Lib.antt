@@ -1,0 +1,10 @@
+pub mod Related
+pub mod Reading
+pub mod Opened
+pub mod Programs
+pub mod Arguments
+pub mod Typed
+pub mod Firm
+pub mod Said
+pub mod Members
+pub mod Led

@@ -1,0 +1,11 @@
+//! Modules as arguments of lemmas: the open programs of module expressions, which may be chosen for the modules that a lemma binds.
+#![tactic(auto)]
+
+pub mod chosen_laws;
+pub mod fact_laws;
+pub mod instance_laws;
+pub mod led_laws;
+pub mod name_laws;
+pub mod opened_laws;
+pub mod put_laws;
+pub mod typed_laws;

@@ -1,0 +1,14 @@
+pub mod Agreements
+pub mod Bare
+pub mod Fitting
+pub mod FreeOperators
+pub mod GivenInstances
+pub mod Globless
+pub mod Alone
+pub mod Instances
+pub mod TypedInstances
+pub mod NamedProcedures
+pub mod LedScopes
+pub mod OpenParameters
+pub mod Stands
+pub mod Understood

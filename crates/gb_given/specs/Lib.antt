@@ -1,0 +1,4 @@
+pub mod Covers
+pub mod Collect
+pub mod Opened
+pub mod Instance

@@ -1,0 +1,4 @@
+pub mod Referring
+pub mod Layers
+pub mod RestrictionSteps
+pub mod TypeParts

@@ -1,0 +1,5 @@
+pub mod Footprint
+pub mod Lossless
+pub mod Fits
+pub mod Put
+pub mod Instance
