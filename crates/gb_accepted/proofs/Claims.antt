@@ -27,7 +27,7 @@ use Rattle.gb_smt_laws.proofs.Split.{each_left}
 use Rattle.gb_smt_laws.proofs.Used.{each_together}
 use Rattle.gb_elab_laws.proofs.Shown.{each_shown}
 use Rattle.gb_elab_laws.specs.Speaking.{IsFirmScope}
-use Rattle.gb_facts.specs.Unblank.{AreUnblank}
+use Rattle.gb_arguments.specs.Unblank.{AreUnblank}
 use Rattle.gb_print.specs.Blank.{begins_blank}
 use Rattle.gb_theory.specs.Built.{Session, seen_in, with_ended, with_proved}
 use Rattle.gb_state.specs.Opened.{modules_of}

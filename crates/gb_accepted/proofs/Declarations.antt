@@ -47,7 +47,7 @@ use Rattle.gb_accepted.proofs.Given.{nothing_given, given_outside}
 use Rattle.gb_accepted.proofs.Grounds.{Grounds, IsTypedGoalOf, around, seen}
 use Rattle.gb_typing.specs.Naming.{NoName}
 use Rattle.gb_elab_laws.specs.Speaking.{IsFirmScope, ScopeSpeaks}
-use Rattle.gb_facts.specs.Unblank.{AreUnblank}
+use Rattle.gb_arguments.specs.Unblank.{AreUnblank}
 use Rattle.gb_print.specs.Blank.{IsUnblank, begins_blank}
 use Rattle.gb_script.specs.Each.{Each}
 use Rattle.gb_accepted.proofs.Claims.{claim_proved}

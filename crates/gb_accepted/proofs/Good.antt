@@ -14,7 +14,7 @@ use Rattle.gb_theory.specs.Built.{Session, OpenProof, fresh_session}
 use Rattle.gb_typing.specs.Naming.{NoName}
 use Rattle.gb_elab_laws.specs.Speaking.{IsFirmScope, ScopeSpeaks}
 use Rattle.gb_elab_laws.specs.Procedures.{IsOfProcedures}
-use Rattle.gb_facts.specs.Unblank.{AreUnblank}
+use Rattle.gb_arguments.specs.Unblank.{AreUnblank}
 use Rattle.gb_print.specs.Blank.{begins_blank}
 use Rattle.gb_state.specs.declared.state.Claim.{Claim}
 use Rattle.gb_state.specs.declared.state.Claim.TheVariants as claim

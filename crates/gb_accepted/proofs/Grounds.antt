@@ -67,10 +67,10 @@ use Rattle.gb_linear.specs.Closing.{linear_answer}
 use Rattle.gb_amb.specs.Lemmas.{IsKnown}
 use Rattle.gb_amb.specs.Uses as uses
 use Rattle.gb_rewrite.specs.Rewriting.{IsUsable, rewrite_answer}
-use Rattle.gb_given.specs.Instance.{AreModulesOf}
-use Rattle.gb_facts.specs.Facts.{IsFact}
+use Rattle.gb_arguments.specs.Instance.{AreModulesOf}
+use Rattle.gb_arguments.specs.Facts.{IsFact}
 use Rattle.gb_elab_laws.specs.Procedures.{AreStated, IsOfProcedures}
-use Rattle.gb_facts.specs.Unblank.{AreUnblank}
+use Rattle.gb_arguments.specs.Unblank.{AreUnblank}
 use Rattle.gb_lex.specs.Lex.{tokens_of}
 use Rattle.gb_limits.specs.Lexeme.{text_at}
 use Rattle.gb_print.specs.Blank.{IsUnblank, begins_blank}

@@ -16,11 +16,11 @@ use Rattle.gb_meaning.specs.Declared.{declared}
 use Rattle.gb_meaning.specs.Holds.{Holds, IsSound}
 use Rattle.gb_typing.specs.Naming.{NoName}
 use Rattle.gb_elab_laws.specs.Speaking.{IsFirmScope, IsWithoutModules, ScopeSpeaks}
-use Rattle.gb_given.specs.Instance.{AreModulesOf}
-use Rattle.gb_facts.specs.Facts.{IsFact}
+use Rattle.gb_arguments.specs.Instance.{AreModulesOf}
+use Rattle.gb_arguments.specs.Facts.{IsFact}
 use Rattle.gb_elab_laws.specs.Procedures.{AreStated, IsOfProcedures}
 use Rattle.gb_instances.specs.Instance.{GivenModule, instance_of}
-use Rattle.gb_facts.specs.Unblank.{AreUnblank}
+use Rattle.gb_arguments.specs.Unblank.{AreUnblank}
 use Rattle.gb_elab_laws.proofs.Given.{same_some}
 use Rattle.gb_elab_laws.proofs.MoreNames.{alone_speaks}
 use Rattle.gb_theory.specs.Built.{Session}

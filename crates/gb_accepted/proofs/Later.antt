@@ -13,7 +13,7 @@ use Rattle.gb_meaning.specs.Holds.{Holds}
 use Rattle.gb_typing.specs.Sequents.{IsTypedSequent}
 use Rattle.gb_typing.specs.Scopes.{context_of, IsTypedScope}
 use Rattle.gb_elab_laws.specs.Speaking.{IsFirmScope}
-use Rattle.gb_facts.specs.Unblank.{AreUnblank}
+use Rattle.gb_arguments.specs.Unblank.{AreUnblank}
 use Rattle.gb_smt_laws.proofs.Used.{each_together}
 use Rattle.gb_accepted.specs.Holding.{Lemma, IsProved, with_entry, lemmas_in, names_of}
 

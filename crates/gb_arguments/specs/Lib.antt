@@ -1,3 +1,10 @@
+pub mod Facts
+pub mod Unblank
+pub mod LedScopes
+pub mod Covers
+pub mod Collect
+pub mod OpenGoals
+pub mod Instance
 pub mod Related
 pub mod Reading
 pub mod Opened

@@ -34,7 +34,7 @@ use Rattle.gb_elab_prog.specs.Sizes.{small}
 use Rattle.gb_elab_prog.specs.Types.{constants, enumeration, enumeration_type, new, only, type_entries, without}
 use Rattle.gb_elab_mod.specs.Lemmas.{claimed, lemma_name, name_in, stated, statement_by, statement_given}
 use Rattle.gb_print.specs.Blank.{IsUnblank, begins_blank}
-use Rattle.gb_facts.specs.Unblank.{AreUnblank}
+use Rattle.gb_arguments.specs.Unblank.{AreUnblank}
 use Rattle.gb_elab_laws.proofs.Given.{given_bind, given_is}
 use Rattle.gb_elab_laws.proofs.Members.{members_front}
 

@@ -58,8 +58,8 @@ use Rattle.gb_elab_mod.specs.OtherLocals.{is_local, reads_other_locals}
 use Rattle.gb_elab_mod.specs.Multiples.{no_such}
 use Rattle.gb_elab_mod.specs.Taken.{is_taken}
 use Rattle.gb_elab_mod.specs.Uses.{about_all, about_memory, about_named, about_statement, about_value, all_hinted, by_modules, hinted, hinted_at, hypothesis_named, hypothesis, inside, is_memory, lemma_named, memory_of, module_given, modules_given, name_of, other_arguments, other_binders, said_about, said_by, said_of, said_of_all, said_of_memory, said_of_modules, said_on, said_plainly, said_with_modules, used, used_at, used_named, value_of, with_given}
-use Rattle.gb_given.specs.Instance.{AreModulesOf}
-use Rattle.gb_facts.specs.Facts.{IsFact}
+use Rattle.gb_arguments.specs.Instance.{AreModulesOf}
+use Rattle.gb_arguments.specs.Facts.{IsFact}
 use Rattle.gb_elab_laws.specs.Procedures.{AreStated}
 use Rattle.gb_elab_laws.proofs.Fits.{goal_fits}
 use Rattle.gb_elab_laws.proofs.Forms.{elaborated_typed}

@@ -12,8 +12,8 @@ use Rattle.gb_instances.specs.Instance.{GivenModule, instance_of}
 use Rattle.gb_typing.specs.Naming.{IsAmong}
 use Rattle.gb_meaning.specs.Names.{Name}
 use Rattle.gb_arguments.specs.Arguments.{names_of}
-use Rattle.gb_given.specs.Instance.{AreModulesOf}
-use Rattle.gb_facts.specs.Facts.{IsFact}
+use Rattle.gb_arguments.specs.Instance.{AreModulesOf}
+use Rattle.gb_arguments.specs.Facts.{IsFact}
 use Rattle.gb_elab_laws.specs.Speaking.{GoalSpeaks}
 
 -- A goal without hypotheses, whose conclusion is no judgment on bodies and quantifies over no module in front. Its context may have

@@ -19,7 +19,7 @@ ghost use Rattle.gb_meaning.specs.Declared.{concrete_module, declared};
 ghost use Rattle.gb_typing.specs.Naming.{NoName};
 ghost use Rattle.gb_elab_laws.specs.Speaking.{DeclarationSpeaks, IsFirmScope, ScopeSpeaks};
 ghost use Rattle.gb_elab_laws.specs.Procedures.{IsOfProcedures};
-ghost use Rattle.gb_facts.specs.Unblank.{AreUnblank};
+ghost use Rattle.gb_arguments.specs.Unblank.{AreUnblank};
 ghost use Rattle.gb_meaning.specs.Truth.{has_module};
 ghost use Rattle.gb_typing.specs.Sequents.{IsTypedSequent};
 ghost use Rattle.gb_typing.specs.Scopes.{context_of, is_declared, IsModule, IsTypedScope};

@@ -12,9 +12,9 @@ ghost use Rattle.gb_typing.specs.Scopes.{context_of, IsTypedScope};
 ghost use Rattle.gb_typing.specs.Sequents.{IsTypedSequent};
 ghost use Rattle.gb_typing.specs.Speaking.{ScopeSpeaks};
 ghost use Rattle.gb_instances.specs.Instance.{GivenModule, instance_of};
-ghost use Rattle.gb_given.specs.Instance.{AreModulesOf};
-ghost use Rattle.gb_facts.specs.Facts.{IsFact};
-ghost use Rattle.gb_facts.specs.Unblank.{AreUnblank};
+ghost use Rattle.gb_arguments.specs.Instance.{AreModulesOf};
+ghost use Rattle.gb_arguments.specs.Facts.{IsFact};
+ghost use Rattle.gb_arguments.specs.Unblank.{AreUnblank};
 ghost use Rattle.gb_elab_laws.specs.Procedures.{IsOfProcedures};
 ghost use Rattle.gb_elab_laws.specs.Speaking.{IsFirmScope};
 
@@ -26,5 +26,5 @@ pub fn instances()
         (ks : List GivenModule) → AreModulesOf (ds ++ es) ks → (p : Place) (r : Sequent) → instance_of (ds ++ es) q ks p ≡ given r →
         (r.modules ≡ []) × IsFact (ds ++ es) r }
 {
-    gb_facts::lemma_laws::instances();
+    gb_arguments::lemma_laws::instances();
 }

@@ -1,3 +1,0 @@
-pub mod Facts
-pub mod Unblank
-pub mod Typed

@@ -1,4 +1,0 @@
-//! What lemmas that bind modules say of modules.
-#![tactic(auto)]
-
-pub mod lemma_laws;

@@ -1,5 +1,0 @@
-use Rattle.gb_given.proofs.TypesSigned.{types_signed}
-use Rattle.gb_given.proofs.asked_laws.signed_types.Goals as goal
-
-pub returns : goal.returns
-returns c = λ ds scoped n t e. types_signed ds scoped n t e

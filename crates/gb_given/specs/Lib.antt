@@ -1,4 +1,0 @@
-pub mod Covers
-pub mod Collect
-pub mod Opened
-pub mod Instance
