@@ -41,12 +41,7 @@ lemma gains (A <: Adversary {-Silent}) &m :
 proof.
 have H : Pr[Real(A).main() @ &m : res] <= Pr[Ideal(A).main() @ &m : res \/ Silent.bad].
 byequiv (_ : ={glob A} ==> !Silent.bad{2} => ={res}).
-proc.
-call (_ : Silent.bad, true).
-proc. wp. rnd. skip. smt().
-proc. wp. rnd. skip. smt().
-wp. skip. smt().
-smt(). smt().
+apply (until_bad A). smt(). smt().
 have U : Pr[Ideal(A).main() @ &m : res \/ Silent.bad]
   = Pr[Ideal(A).main() @ &m : res] + Pr[Ideal(A).main() @ &m : Silent.bad] - Pr[Ideal(A).main() @ &m : res /\ Silent.bad].
 rewrite Pr[mu_or]. trivial.
