@@ -46,7 +46,7 @@ use Rattle.gb_adv.specs.OwnNames.{own_names}
 use Rattle.gb_adv.specs.Proc as procedures_of
 use Rattle.gb_adv.specs.Proc.{proc_row}
 use Rattle.gb_adv.specs.Rows.{abstract_row}
-use Rattle.gb_adv.specs.Until.{by_full, by_writes_until, each_keep_until, end_until, as_long, keep_until, on_both_until, until_goals, until_row, where_both_full, with_until}
+use Rattle.gb_adv.specs.Until.{by_full, by_writes_until, each_keep_until, end_until, as_long, keep_until, on_both_until, until_goals, until_row, with_until}
 use Rattle.gb_call_both.specs.OneSide.{speaks, where_full}
 use Rattle.gb_full.specs.Loss.{Loss, nowhere, sampled, called, code_loss}
 use Rattle.gb_accepted.proofs.CallsEnd.{few, unclashing}
