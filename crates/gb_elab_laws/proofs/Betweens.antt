@@ -39,7 +39,7 @@ use Rattle.gb_equiv.specs.Transitivity.{IsBetween}
 use Rattle.gb_elab_laws.proofs.Anew.{fits, params_stand, result_stands}
 use Rattle.gb_elab_laws.proofs.Fits.{goal_procedure}
 use Rattle.gb_elab_laws.proofs.Forms.{elaborated_typed}
-use Rattle.gb_elab_laws.proofs.Given.{given_bind, given_is}
+use Rattle.gb_elab_laws.proofs.Given.{given_bind, given_is, not_given}
 use Rattle.gb_elab_laws.proofs.Judged.{IsKnownAs, condition as conditions, functor_is, named_is}
 
 -- It is a step of `transitivity`, or one that fits no goal.
@@ -56,7 +56,7 @@ module _ (ds : scope.Declarations) (q : Sequent) (P : Rule → Type 0) (between 
   fits_none k h = subst P (given_is (rule.OnBodies on_bodies.Unfit) k h) unfit
 
   by_contracts : (a : Answer Named) (c : Option Contracts) (o : Option (ProcRef × ProcRef)) (p : Place) (k : Rule) → between_by ds q a c o p ≡ given k → P k
-  by_contracts a None o p k h = cc
+  by_contracts a None o p k h = absurd (not_given _ _ k h)
   by_contracts a (Some c) None p k h = fits_none k h
   by_contracts a (Some c) (Some z) p k h =
       let m = given_bind a (λ (m : Named). between_of ds q m c.0.0 c.0.1 c.1.0 c.1.1 z.0 z.1) k h in is_between m.0 c.0.0 c.0.1 c.1.0 c.1.1 z.0 z.1 k m.2
@@ -64,17 +64,17 @@ module _ (ds : scope.Declarations) (q : Sequent) (P : Rule → Type 0) (between 
   by_words : (xs ns : List Node) (p : Place) (k : Rule) → between_words ds q xs ns p ≡ given k → P k
   by_words (x ∷ xs) (a ∷ b ∷ n ∷ []) p k h =
       by_contracts (named_procedure (ambient ds q) [] text.ProcedurePath (x ∷ xs) (place_of x)) (contracts (a ∷ b ∷ []) (parts_of n)) (procedures_of (goal_of q.conclusion)) p k h
-  by_words _ _ p k h = cc
+  by_words _ _ p k h = absurd (not_given _ _ k h)
 
   by_functor : (xs ns : List Node) (p : Place) (k : Rule) → between_functor ds q xs ns p ≡ given k → P k
   by_functor (x ∷ xs) (m ∷ ms ∷ f ∷ c ∷ d ∷ []) p k h =
       by_contracts (functor_procedure (ambient ds q) [] x xs (m ∷ parts_of ms) f (place_of x)) (contracts (parts_of c) (parts_of d)) (procedures_of (goal_of q.conclusion)) p k h
-  by_functor _ _ p k h = cc
+  by_functor _ _ p k h = absurd (not_given _ _ k h)
 
   written : (j : Kind) (ns : List Node) (p : Place) (k : Rule) → between_at ds q j ns p ≡ given k → P k
   written text.PlainTransitivity ns p k h = by_words (take (length ns - 3) ns) (drop (length ns - 3) ns) p k h
   written text.FunctorTransitivity ns p k h = by_functor (take (length ns - 5) ns) (drop (length ns - 5) ns) p k h
-  written _ _ p k h = cc
+  written _ _ p k h = absurd (not_given _ _ k h)
 
   pub of_transitive : (a : Acts) (j : Kind) (ns : List Node) (p : Place) (k : Rule) → transitive_rule ds q a j ns p ≡ given k → P k
   of_transitive on.All j ns p k h = written j ns p k h
@@ -132,7 +132,7 @@ module _ (ds : scope.Declarations) (scoped : IsTypedScope (declared ds)) (q : Se
 
     goal_typed : (a : Answer Named) → ((m : Named) → a ≡ given m → IsKnownAs (ambient ds q) m) → (c : Option Contracts) (G : Goal) → goal_of q.conclusion ≡ G → IsGoalOver here ls rs G →
         (p : Place) (k : Rule) → between_by ds q a c (procedures_of G) p ≡ given k → Typed k
-    goal_typed a f None G e z p k h = cc
+    goal_typed a f None G e z p k h = absurd (not_given _ _ k h)
     goal_typed a f (Some c) (equiv (of_procedure r) (of_procedure o) u v) e z p k h =
         let m = given_bind a (λ (m : Named). between_of ds q m c.0.0 c.0.1 c.1.0 c.1.1 r o) k h in
         between_typed m.0 (f m.0 m.1) c.0.0 c.0.1 c.1.0 c.1.1 r o z.1 z.2 u v e k m.2
@@ -146,18 +146,18 @@ module _ (ds : scope.Declarations) (scoped : IsTypedScope (declared ds)) (q : Se
     words_typed (x ∷ xs) (a ∷ b ∷ n ∷ []) p k h =
         goal_typed (named_procedure (ambient ds q) [] text.ProcedurePath (x ∷ xs) (place_of x)) (named_is (ambient ds q) [] text.ProcedurePath (x ∷ xs) (place_of x)) (contracts (a ∷ b ∷ []) (parts_of n))
         (goal_of q.conclusion) refl w p k h
-    words_typed _ _ p k h = cc
+    words_typed _ _ p k h = absurd (not_given _ _ k h)
 
     functor_typed : (xs ns : List Node) (p : Place) (k : Rule) → between_functor ds q xs ns p ≡ given k → Typed k
     functor_typed (x ∷ xs) (m ∷ ms ∷ f ∷ c ∷ d ∷ []) p k h =
         goal_typed (functor_procedure (ambient ds q) [] x xs (m ∷ parts_of ms) f (place_of x)) (functor_is (ambient ds q) [] x xs (m ∷ parts_of ms) f (place_of x)) (contracts (parts_of c) (parts_of d))
         (goal_of q.conclusion) refl w p k h
-    functor_typed _ _ p k h = cc
+    functor_typed _ _ p k h = absurd (not_given _ _ k h)
 
     written_typed : (j : Kind) (ns : List Node) (p : Place) (k : Rule) → between_at ds q j ns p ≡ given k → Typed k
     written_typed text.PlainTransitivity ns p k h = words_typed (take (length ns - 3) ns) (drop (length ns - 3) ns) p k h
     written_typed text.FunctorTransitivity ns p k h = functor_typed (take (length ns - 5) ns) (drop (length ns - 5) ns) p k h
-    written_typed _ _ p k h = cc
+    written_typed _ _ p k h = absurd (not_given _ _ k h)
 
     pub transitive_typed : (a : Acts) (j : Kind) (ns : List Node) (p : Place) (k : Rule) → transitive_rule ds q a j ns p ≡ given k → Typed k
     transitive_typed on.All j ns p k h = written_typed j ns p k h

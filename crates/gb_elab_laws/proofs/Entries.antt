@@ -25,6 +25,7 @@ use Rattle.gb_elab_prog.specs.Operators.{all_parameters, body, defined, operator
 use Rattle.gb_elab_prog.specs.ModuleTypes.{module_type_entries}
 use Rattle.gb_elab_prog.specs.Entries.{entries_by, entries_given}
 use Rattle.gb_elab_prog.proofs.New.{given_bind, given_is, entries_new}
+use Rattle.gb_elab_laws.proofs.Given.{not_given}
 use Rattle.gb_elab_laws.proofs.Bodies.{IsOperatorIn, operator_typed}
 use Rattle.gb_elab_laws.proofs.Members.{free_is}
 use Rattle.gb_elab_laws.proofs.Literals.{enumeration_literal}
@@ -89,7 +90,7 @@ constants_good ds x size i added all (y ∷ ys) some room h e =
 -- where nothing stands behind what is declared
 without_is : (xs : List Node) (added all : scope.Declarations) → without xs added ≡ given all → added ≡ all
 without_is [] added all e = given_is added all e
-without_is (x ∷ xs) added all e = cc
+without_is (x ∷ xs) added all e = absurd (not_given _ _ all e)
 
 enumeration_good : (ds : scope.Declarations) (x : Node) (cs more : List Node) (all : scope.Declarations) → 0 < length cs → enumeration ds x cs more ≡ given all → AreGood all
 enumeration_good ds x cs more all some e =
@@ -102,7 +103,7 @@ types_good ds names x head.AbstractType ps p all e = subst AreGood (given_is (on
 types_good ds names x head.TypeAlias (t ∷ []) p all e =
     let a = given_bind (type_of ds t) _ all e in subst AreGood (given_is (only x (entry.Type a.0)) all a.2) (spelled_typed ds names t a.0 a.1, tt)
 types_good ds names x head.Enumeration (c ∷ cs) p all e = enumeration_good ds x (take 256 (c ∷ cs)) (drop 256 (c ∷ cs)) all (omega arith) e
-types_good ds names x _ ps p all e = cc
+types_good ds names x _ ps p all e = absurd (not_given _ _ all e)
 
 -- what no declaration has is declared by none
 undeclared : (ds : scope.Declarations) (n : Name) → entry_of ds n ≡ None → is_declared (declared ds) n ≡ false
@@ -160,7 +161,7 @@ types_others ds x head.AbstractType ps p all e = subst ClaimNothing (given_is (o
 types_others ds x head.TypeAlias (t ∷ []) p all e =
     let a = given_bind (type_of ds t) _ all e in subst ClaimNothing (given_is (only x (entry.Type a.0)) all a.2) (refl, tt)
 types_others ds x head.Enumeration (c ∷ cs) p all e = enumeration_others ds x (take 256 (c ∷ cs)) (drop 256 (c ∷ cs)) all e
-types_others ds x _ ps p all e = cc
+types_others ds x _ ps p all e = absurd (not_given _ _ all e)
 
 module_type_others : (ds : scope.Declarations) (x : Node) (ps ts : List Node) (all : scope.Declarations) → module_type_entries ds x ps ts ≡ given all → ClaimNothing all
 module_type_others ds x ps ts all e = let t = module_type_is ds x ps ts all e in subst ClaimNothing t.is (refl, tt)
@@ -217,15 +218,15 @@ undefined_other ds ts (r ∷ []) p e h =
     let a = given_bind (all_given (map (type_of ds) ts)) _ e h in
     let b = given_bind (type_or_number ds r) _ e a.2 in
     subst (λ z. is_claim z ≡ false) (given_is _ e b.2) refl
-undefined_other ds ts [] p e h = cc
-undefined_other ds ts (r ∷ s ∷ rs) p e h = cc
+undefined_other ds ts [] p e h = absurd (not_given _ _ e h)
+undefined_other ds ts (r ∷ s ∷ rs) p e h = absurd (not_given _ _ e h)
 
 operator_other : (ds : scope.Declarations) (h : Head) (ps : List Node) (p : Place) (e : Entry) → operator_entry ds h ps p ≡ given e → is_claim e ≡ false
 operator_other ds head.DefinedOperator (gs ∷ r ∷ t ∷ []) p e k = defined_other ds (parts_of gs) (parts_of r) t e k
 operator_other ds head.Constant (t ∷ []) p e k = defined_other ds [] [] t e k
 operator_other ds head.TypedConstant (r ∷ t ∷ []) p e k = defined_other ds [] (r ∷ []) t e k
 operator_other ds head.AbstractOperator ts p e k = undefined_other ds (take (pred (length ts)) ts) (drop (pred (length ts)) ts) p e k
-operator_other ds _ ps p e k = cc
+operator_other ds _ ps p e k = absurd (not_given _ _ e k)
 
 -- what a command declares is typed behind what is declared
 abbrev AreAdded : scope.Declarations → scope.Declarations → Type 0
@@ -243,7 +244,7 @@ by_head ds s head.OperatorDeclaration (x ∷ d ∷ []) p all e n =
     (operator_added ds x b.0 (free_is ds x a.0 a.1) (operator_typed ds (context_of (declared ds)) (declared_in ds s) (head_of d) (parts_of d) (place_of d) b.0 b.1))
 by_head ds s head.ModuleType (x ∷ ps ∷ ts ∷ []) p all e n =
     let t = module_type_is ds x (parts_of ps) (parts_of ts) all e in subst (AreAdded ds) t.is (t.free, t.typed s, tt)
-by_head ds s _ ps p all e n = cc
+by_head ds s _ ps p all e n = absurd (not_given _ _ all e)
 
 pub entries_typed : (ds : scope.Declarations) → IsTypedScope (declared ds) → (t : Node) (all : scope.Declarations) → entries_given ds t ≡ given all → IsTypedScope (declared (ds ++ all))
 entries_typed ds s t all e =
@@ -263,7 +264,7 @@ speaks_by_head ds s head.OperatorDeclaration (x ∷ d ∷ []) p all e =
     (operator_speaks (context_of (declared ds)) x b.0 (operator_typed ds (context_of (declared ds)) (declared_in ds s) (head_of d) (parts_of d) (place_of d) b.0 b.1))
 speaks_by_head ds s head.ModuleType (x ∷ ps ∷ ts ∷ []) p all e =
     let t = module_type_is ds x (parts_of ps) (parts_of ts) all e in subst (λ z. ScopeSpeaks NoName (declared z)) t.is (tt, tt)
-speaks_by_head ds s _ ps p all e = cc
+speaks_by_head ds s _ ps p all e = absurd (not_given _ _ all e)
 
 pub entries_speak : (ds : scope.Declarations) → IsTypedScope (declared ds) → (t : Node) (all : scope.Declarations) → entries_given ds t ≡ given all → ScopeSpeaks NoName (declared all)
 entries_speak ds s t all e = speaks_by_head ds s (head_of t) (parts_of t) (place_of t) all e
@@ -281,7 +282,7 @@ firm_by_head ds s head.OperatorDeclaration (x ∷ d ∷ []) p all e =
     (operator_firm (context_of (declared ds)) x b.0 (operator_typed ds (context_of (declared ds)) (declared_in ds s) (head_of d) (parts_of d) (place_of d) b.0 b.1))
 firm_by_head ds s head.ModuleType (x ∷ ps ∷ ts ∷ []) p all e =
     let t = module_type_is ds x (parts_of ps) (parts_of ts) all e in subst IsFirmScope t.is (tt, tt)
-firm_by_head ds s _ ps p all e = cc
+firm_by_head ds s _ ps p all e = absurd (not_given _ _ all e)
 
 pub entries_firm : (ds : scope.Declarations) → IsTypedScope (declared ds) → (t : Node) (all : scope.Declarations) → entries_given ds t ≡ given all → IsFirmScope all
 entries_firm ds s t all e = firm_by_head ds s (head_of t) (parts_of t) (place_of t) all e
@@ -295,7 +296,7 @@ others_by_head ds head.OperatorDeclaration (x ∷ d ∷ []) p all e =
     let b = given_bind (operator_entry ds (head_of d) (parts_of d) (place_of d)) _ all a.2 in
     subst ClaimNothing (given_is (only x b.0) all b.2) (operator_other ds (head_of d) (parts_of d) (place_of d) b.0 b.1, tt)
 others_by_head ds head.ModuleType (x ∷ ps ∷ ts ∷ []) p all e = module_type_others ds x (parts_of ps) (parts_of ts) all e
-others_by_head ds _ ps p all e = cc
+others_by_head ds _ ps p all e = absurd (not_given _ _ all e)
 
 pub entries_others : (ds : scope.Declarations) (t : Node) (all : scope.Declarations) → entries_given ds t ≡ given all → ClaimNothing all
 entries_others ds t all e = others_by_head ds (head_of t) (parts_of t) (place_of t) all e

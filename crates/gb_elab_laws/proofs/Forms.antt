@@ -5,7 +5,7 @@ use Rattle.std.specs.Option.{option_map, option_map_or}
 use Rattle.std.proofs.lemmas.List.{append_assoc, append-nil}
 use Rattle.std.proofs.lemmas.Bool.{and_parts, ltb-true}
 use Rattle.gb_core.specs.declared.place.Place.{Place}
-use Rattle.gb_core.specs.declared.refusal.Why.TheVariants.{TypeMismatch, Argument}
+use Rattle.gb_core.specs.declared.refusal.Why.TheVariants.{TypeMismatch, Argument, Syntax}
 use Rattle.gb_core.specs.declared.ty.Ty.{Ty}
 use Rattle.gb_core.specs.declared.ty.Ty.TheVariants as ty
 use Rattle.gb_core.specs.SameTypes.{ty_eq}
@@ -240,9 +240,9 @@ module _ (globs : Name → Bool) where
           (if t then by_rule (rule_for o true b.0) (parts (b ∷ a ∷ [])) p at vs w else by_rule (rule_for o false b.0) (parts (a ∷ b ∷ [])) p at vs w) ≡ given u → IsGiven globs c at.language w u
       step true k = rule_typed (rule_for o true b.0) (rule_known o n true b.0) (b ∷ a ∷ []) p c at vs fit w f u k
       step false k = rule_typed (rule_for o false b.0) (rule_known o n false b.0) (a ∷ b ∷ []) p c at vs fit w f u k
-  operation_typed (Some o) n [] p c at vs fit w f u e = cc
-  operation_typed (Some o) n (a ∷ b ∷ d ∷ ks) p c at vs fit w f u e = cc
-  operation_typed None n ks p c at vs fit w f u e = cc
+  operation_typed (Some o) n [] p c at vs fit w f u e = absurd (not_given Syntax p u e)
+  operation_typed (Some o) n (a ∷ b ∷ d ∷ ks) p c at vs fit w f u e = absurd (not_given Syntax p u e)
+  operation_typed None n ks p c at vs fit w f u e = absurd (not_given Syntax p u e)
 
   -- a comparison
   comparing_typed : (o : Option (Seen × Seen)) (x : Name) (ks : List Known) (p : Place) → GivesTyped (comparing o x (parts ks) p)
@@ -287,15 +287,15 @@ module _ (globs : Name → Bool) where
       let names = fit.declared in
       let t = given_bind (type_or_number at.declared s.0) (λ t. by_rule (rule.Annotated t) (parts (a ∷ [])) p at vs w) u e in
       rule_typed (rule.Annotated t.0) (λ c globs. (measured_form globs t.0 (measured at.declared names.types s.0 t.0 t.1)).1) (a ∷ []) p c at vs fit w f u t.2
-  annotated_typed [] p c at vs fit w f u e = cc
-  annotated_typed (a ∷ []) p c at vs fit w f u e = cc
-  annotated_typed (a ∷ s ∷ b ∷ ks) p c at vs fit w f u e = cc
+  annotated_typed [] p c at vs fit w f u e = absurd (not_given Syntax p u e)
+  annotated_typed (a ∷ []) p c at vs fit w f u e = absurd (not_given Syntax p u e)
+  annotated_typed (a ∷ s ∷ b ∷ ks) p c at vs fit w f u e = absurd (not_given Syntax p u e)
 
   projection_typed : (ks : List Known) (p : Place) → GivesTyped (projection (parts ks) p)
   projection_typed (a ∷ n ∷ []) p c at vs fit w f u e = rule_typed (rule.Part (part_number (text_of n.0)) (place_of n.0)) (λ c globs. tt) (a ∷ []) p c at vs fit w f u e
-  projection_typed [] p c at vs fit w f u e = cc
-  projection_typed (a ∷ []) p c at vs fit w f u e = cc
-  projection_typed (a ∷ n ∷ b ∷ ks) p c at vs fit w f u e = cc
+  projection_typed [] p c at vs fit w f u e = absurd (not_given Syntax p u e)
+  projection_typed (a ∷ []) p c at vs fit w f u e = absurd (not_given Syntax p u e)
+  projection_typed (a ∷ n ∷ b ∷ ks) p c at vs fit w f u e = absurd (not_given Syntax p u e)
 
   bound_above : (q : Node) (n : ℕ) → bound_of q ≡ given n → 0 < n
   bound_above q n e = step (number_in q) e
@@ -304,16 +304,16 @@ module _ (globs : Name → Bool) where
       step (Some m) h =
           let k = if_given (is_bound m) m Argument (place_inside q) n h in
           let j = and_parts (nat_lt 0 m) (nat_lt m 65537) k.0 in subst (λ z. 0 < z) k.1 (ltb-true 0 m j.0)
-      step None h = cc
+      step None h = absurd (not_given Argument (place_inside q) n h)
 
   summed_typed : (ks : List Known) (p : Place) → GivesTyped (summed (parts ks) p)
   summed_typed (q ∷ g ∷ []) p c at vs fit w f u e =
       let k = given_bind (stands at w p ty.Real) _ u e in
       let n = given_bind (bound_of q.0) (λ n. by_rule (rule.Sum n) (parts (g ∷ [])) p at vs w) u k.2 in
       rule_typed (rule.Sum n.0) (λ c globs. bound_above q.0 n.0 n.1) (g ∷ []) p c at vs fit w f u n.2
-  summed_typed [] p c at vs fit w f u e = cc
-  summed_typed (a ∷ []) p c at vs fit w f u e = cc
-  summed_typed (a ∷ s ∷ b ∷ ks) p c at vs fit w f u e = cc
+  summed_typed [] p c at vs fit w f u e = absurd (not_given TypeMismatch p u e)
+  summed_typed (a ∷ []) p c at vs fit w f u e = absurd (not_given TypeMismatch p u e)
+  summed_typed (a ∷ s ∷ b ∷ ks) p c at vs fit w f u e = absurd (not_given TypeMismatch p u e)
 
   -- built-in operators at arguments
   rule_good : (k : BuiltIn) (n : ℕ) (r : Rule) → rule_of k n ≡ Some r → (c : Context) (globs : Name → Bool) → IsRule c globs r
@@ -355,11 +355,11 @@ module _ (globs : Name → Bool) where
   application_typed : (h : Head) (x : Name) (ns : List Node) (ks : List Known) (p : Place) → GivesTyped (application h x ns (parts ks) p)
   application_typed head.Name x ns ks p c at vs fit w f u e = applied_typed x ks p c at vs fit w f u e
   application_typed head.Path x ns ks p c at vs fit w f u e = applied_typed (path ns) ks p c at vs fit w f u e
-  application_typed _ x ns ks p c at vs fit w f u e = cc
+  application_typed _ x ns ks p c at vs fit w f u e = absurd (not_given TypeMismatch p u e)
 
   applied_form_typed : (ks : List Known) (p : Place) → GivesTyped (applied_form (parts ks) p)
   applied_form_typed (a ∷ ks) p c at vs fit w f u e = application_typed (head_of a.0) (text_of a.0) (parts_of a.0) ks p c at vs fit w f u e
-  applied_form_typed [] p c at vs fit w f u e = cc
+  applied_form_typed [] p c at vs fit w f u e = absurd (not_given Syntax p u e)
 
   quantified_typed : (x : Name) (ks : List Known) (p : Place) → GivesTyped (quantified x (parts ks) p)
   quantified_typed x (bs ∷ a ∷ []) p c at vs fit w f u h =
@@ -375,7 +375,7 @@ module _ (globs : Name → Bool) where
       let body = of_given inner at.language ty.Bool r.0 (a.1.0 inner at ws (under_all_fits at b.0 vs c bound fit) (Some ty.Bool) tt r.0 r.1) in
       subst (IsGiven globs c at.language w) (given_is _ u r.2)
       (truth_given c at.language w p d.0 (over_all q.0 b.0 r.0) k.1 (over_all_typed at.language c q.0 b.0 r.0 bound body))
-  quantified_typed x _ p c at vs fit w f u h = cc
+  quantified_typed x _ p c at vs fit w f u h = absurd (not_given Syntax p u h)
 
   equiv_typed : (ks : List Known) (p : Place) → GivesTyped (equivalence (parts ks) p)
   equiv_typed (m ∷ g ∷ a ∷ b ∷ []) p c at vs fit w f u h =
@@ -392,7 +392,7 @@ module _ (globs : Name → Bool) where
       (equivalence_typed c at vs fit k.0 l.0 r.0 l.1 r.1 there.0 there.1 pre.0 post.0
       (a.1.0 _ (before at l.1 r.1) vs (before_fits c at vs fit k.0 l.0 r.0 l.1 r.1 there.0 there.1) (Some ty.Bool) tt pre.0 pre.1)
       (b.1.0 _ (after at l.1 r.1) vs (after_fits c at vs fit k.0 l.0 r.0 l.1 r.1 there.0 there.1) (Some ty.Bool) tt post.0 post.1)))
-  equiv_typed _ p c at vs fit w f u h = cc
+  equiv_typed _ p c at vs fit w f u h = absurd (not_given Syntax p u h)
 
   contract_typed : (ks : List Known) (p : Place) → GivesContracts (contract (parts ks) p)
   contract_typed (f ∷ a ∷ b ∷ []) p c at vs fit j k h =
@@ -407,7 +407,7 @@ module _ (globs : Name → Bool) where
         pre = a.1.0 _ (before_one at m.0.1) vs (before_one_fits c at vs fit j m.0.0 m.0.1 there) (Some ty.Bool) tt pre.0 pre.1;
         post = b.1.0 _ (after_one at m.0.1) vs (after_one_fits c at vs fit j m.0.0 m.0.1 there) (Some ty.Bool) tt post.0 post.1;
       })
-  contract_typed _ p c at vs fit j k h = cc
+  contract_typed _ p c at vs fit j k h = absurd (not_given Syntax p k h)
 
   -- a judgment may stand, and is of the wanted type
   judged : (c : Context) (at : Environment) (w : Option Ty) (p : Place) (x : Unit {0}) → judgment at w p ≡ given x → (has_judgments at.language ≡ true) × (truth w p ≡ given x)
@@ -432,7 +432,7 @@ module _ (globs : Name → Bool) where
       (truth_given c at.language w p y.0 (with_chance k.0 s.0 b.0) j.1
       (with_chance_typed c at vs fit j.0 k.0 s.0 b.0 (a.1.2 c at vs fit j.0 k.0 k.1)
       (r.1.0 (with_own c None) (around at) vs (around_fits c at vs fit j.0) (Some ty.Real) tt b.0 b.1)))
-  bounded_typed x _ p c at vs fit w f u h = cc
+  bounded_typed x _ p c at vs fit w f u h = absurd (not_given Syntax p u h)
 
   probability_typed : (ks : List Known) (p : Place) → GivesTyped (probability (parts ks) p)
   probability_typed (k ∷ m ∷ b ∷ []) p c at vs fit w f u h =
@@ -444,27 +444,27 @@ module _ (globs : Name → Bool) where
       let e = given_bind (elaborated b.0 (after_one at n.0.1) vs (Some ty.Bool)) (λ (t : Term). given (chance n.0.0 s.0 ts.0 t)) u s.2 in
       let there = called_is at vs (head_of k.0) (parts_of k.0) (place_of k.0) n.0 n.1 in
       let known = known_there c at vs fit j.0 n.0.0 n.0.1 there in
-      subst (IsGiven globs c at.language w) {x = chance n.0.0 s.0 ts.0 e.0} (given_is _ u e.2)
+      subst (IsGiven globs c at.language w) {x = chance n.0.0 s.0 ts.0 e.0} (given_is (chance n.0.0 s.0 ts.0 e.0) u e.2)
       (given_from c at.language w ty.Real (chance n.0.0 s.0 ts.0 e.0)
       (chance_typed c at vs fit j.0 n.0.0 n.0.1 there s.0 (memory_is c at vs fit (remembering at.language j.0) (text_of m.0) (place_of m.0) s.0 s.1) ts.0
       (k.1.3 c (before_call at (text_of m.0)) vs (call_fits c at vs fit j.0 (text_of m.0)) n.0.1.params known.params (place_of k.0) ts.0 ts.1) e.0
       (b.1.0 _ (after_one at n.0.1) vs (after_one_fits c at vs fit j.0 n.0.0 n.0.1 there) (Some ty.Bool) tt e.0 e.1))
       (stands_is at w p ty.Real x.0 j.1))
-  probability_typed _ p c at vs fit w f u h = cc
+  probability_typed _ p c at vs fit w f u h = absurd (not_given Syntax p u h)
 
   -- a form with a side
   with_side_typed : (ns : List Node) (p : Place) → GivesTyped (with_side ns p)
   with_side_typed (a ∷ s ∷ []) p c at vs fit w f u e =
       let q = given_bind (read at vs (head_of a) (text_of a) (parts_of a) (place_of a) s) (wanted w p) u e in
       wanted_given c at.language w p q.0 u (read_typed c at vs fit (head_of a) (text_of a) (parts_of a) (place_of a) s q.0 q.1) q.2
-  with_side_typed [] p c at vs fit w f u e = cc
-  with_side_typed (a ∷ []) p c at vs fit w f u e = cc
-  with_side_typed (a ∷ s ∷ b ∷ ns) p c at vs fit w f u e = cc
+  with_side_typed [] p c at vs fit w f u e = absurd (not_given Syntax p u e)
+  with_side_typed (a ∷ []) p c at vs fit w f u e = absurd (not_given Syntax p u e)
+  with_side_typed (a ∷ s ∷ b ∷ ns) p c at vs fit w f u e = absurd (not_given Syntax p u e)
 
   bracketed_typed : (ks : List Known) (p : Place) → GivesTyped (bracketed (parts ks) p)
   bracketed_typed (a ∷ []) p c at vs fit w f u e = a.1.0 c at vs fit w f u e
-  bracketed_typed [] p c at vs fit w f u e = cc
-  bracketed_typed (a ∷ b ∷ ks) p c at vs fit w f u e = cc
+  bracketed_typed [] p c at vs fit w f u e = absurd (not_given Syntax p u e)
+  bracketed_typed (a ∷ b ∷ ks) p c at vs fit w f u e = absurd (not_given Syntax p u e)
 
   form_parts : (h : Head) (x : Name) (ks : List Known) (p : Place) → GivesTyped (typing h x (parts ks) p)
   unfolding typing
@@ -475,8 +475,8 @@ module _ (globs : Name → Bool) where
   form_parts head.Bracketed x ks p c at vs fit w f u e = bracketed_typed ks p c at vs fit w f u e
   form_parts head.Sided x ks p c at vs fit w f u e = with_side_typed (bare (parts ks)) p c at vs fit w f u e
   form_parts head.Coin x ks p c at vs fit w f u e = coin_typed globs c at w p u e
-  form_parts head.Function x ks p c at vs fit w f u e = cc
-  form_parts head.TypedFunction x ks p c at vs fit w f u e = cc
+  form_parts head.Function x ks p c at vs fit w f u e = absurd (not_given TypeMismatch p u e)
+  form_parts head.TypedFunction x ks p c at vs fit w f u e = absurd (not_given TypeMismatch p u e)
   form_parts head.Typed x ks p c at vs fit w f u e = annotated_typed ks p c at vs fit w f u e
   form_parts head.Tuple x ks p c at vs fit w f u e = rule_typed (rule.Tuple (length (parts ks))) (λ c globs. tt) ks p c at vs fit w f u e
   form_parts head.Component x ks p c at vs fit w f u e = projection_typed ks p c at vs fit w f u e
@@ -543,7 +543,7 @@ module _ (globs : Name → Bool) where
       let x = given_bind (only (parts_of xs.0) p) _ u e in
       let t = given_bind (written_as at.declared d s.0) (λ t. value_of (text_of x.0) t (a.0, meant a.0) at vs w) u x.2 in
       value_typed a d (text_of x.0) t.0 c at vs fit (written_name at.declared globs d n (text_of x.0) s.0 t.0 t.1) w f u t.2
-  function_parts _ _ p c at vs fit d n w f u e = cc
+  function_parts _ _ p c at vs fit d n w f u e = absurd (not_given _ p u e)
 
   -- arguments behind those that are typed
   module _ (c : Context) (at : Environment) (vs : List Binding) (fit : IsFitting globs c at vs) (p : Place) where
@@ -553,8 +553,8 @@ module _ (globs : Name → Bool) where
     behind_typed : (ds : List Term) (xs : List TypedName) (ks : List Known) (ts : List Term) → HaveVariableTypes xs → arguments p at vs ds xs (parts ks) ≡ given ts → Behind ds xs ts
     unfolding arguments
     behind_typed ds [] [] ts h e = ([], append-nil ds ∙ given_is ds ts e, tt)
-    behind_typed ds (x ∷ xs) [] ts h e = cc
-    behind_typed ds [] (a ∷ ks) ts h e = cc
+    behind_typed ds (x ∷ xs) [] ts h e = absurd (not_given TypeMismatch p ts e)
+    behind_typed ds [] (a ∷ ks) ts h e = absurd (not_given TypeMismatch (place_of a.0) ts e)
     behind_typed ds (x ∷ xs) (a ∷ ks) ts h e =
         let t = given_bind (elaborated a.0 at vs (Some x.ty)) (λ t. arguments p at vs (ds ++ t ∷ []) xs (parts ks)) ts e in
         let g = a.1.0 c at vs fit (Some x.ty) (finite_form globs x.ty (variable_with globs x.ty h.0)) t.0 t.1 in
@@ -563,7 +563,7 @@ module _ (globs : Name → Bool) where
 
   last_typed : (o : Option Known) → GivesArguments (last_arguments (option_map (λ k. (k.0, meant k.0)) o))
   last_typed (Some a) c at vs fit xs h p ts e = a.1.3 c at vs fit xs h p ts e
-  last_typed None c at vs fit xs h p ts e = cc
+  last_typed None c at vs fit xs h p ts e = absurd (not_given Syntax p ts e)
 
   part_at : (ks : List Known) (i : ℕ) → slice_get (parts ks) i ≡ option_map (λ k. (k.0, meant k.0)) (slice_get ks i)
   part_at [] i = refl
@@ -581,11 +581,11 @@ module _ (globs : Name → Bool) where
   argument_parts head.List ks c at vs fit xs h p ts e =
       let k = if_refused (nat_lt (length (parts ks)) (length xs)) TypeMismatch p (arguments p at vs [] xs (parts ks)) ts e in
       let r = behind_typed c at vs fit p [] xs ks ts h k.1 in subst (AreArguments globs c xs) r.1 r.2
-  argument_parts _ ks c at vs fit xs h p ts e = cc
+  argument_parts _ ks c at vs fit xs h p ts e = absurd (not_given Syntax p ts e)
 
   contract_parts : (h : Head) (ks : List Known) (p : Place) → GivesContracts (contracting h (parts ks) p)
   contract_parts head.Phoare ks p c at vs fit j k e = contract_typed ks p c at vs fit j k e
-  contract_parts _ ks p c at vs fit j k e = cc
+  contract_parts _ ks p c at vs fit j k e = absurd (not_given TypeMismatch p k e)
 
   all_parts : (h : Head) (x : Name) (ks : List Known) (p : Place) → IsTyped (meaning h x (parts ks) p)
   all_parts h x ks p = (form_parts h x ks p, function_parts h ks p, contract_parts h ks p, argument_parts h ks)

@@ -36,7 +36,7 @@ use Rattle.gb_elab_prog.specs.Procedures.{formals, result_type}
 use Rattle.gb_elab_prog.specs.Types.{only}
 use Rattle.gb_elab_laws.specs.Fitting.{AreTypes}
 use Rattle.gb_elab_laws.proofs.Declared.{declared_in}
-use Rattle.gb_elab_laws.proofs.Given.{given_bind, given_is, if_absent, if_refused, none_some, same_some, some_given}
+use Rattle.gb_elab_laws.proofs.Given.{given_bind, given_is, if_absent, if_refused, none_some, not_given, same_some, some_given}
 use Rattle.gb_elab_laws.proofs.Members.{free_is}
 use Rattle.gb_elab_laws.proofs.ModuleNames.{no_module, type_known}
 use Rattle.gb_elab_laws.proofs.Programs.{formals_typed, result_typed}
@@ -54,7 +54,7 @@ params_behind ms (q ∷ ps) p h k = (h.0, params_behind (with_param ms q) ps p h
 
 none_lacking : (ps : List Param) (p : Place) (y : Unit {0}) → without_parameters ps p ≡ given y → ps ≡ []
 none_lacking [] p y e = refl
-none_lacking (q ∷ ps) p y e = cc
+none_lacking (q ∷ ps) p y e = absurd (not_given _ _ y e)
 
 -- Signatures.
 
@@ -106,7 +106,7 @@ module _ (ds : Declarations) (scoped : IsTypedScope (declared ds)) where
       let q : Param = param x t in
       subst (AreParams here) (given_is (qs ++ q ∷ []) rs k.2)
       (params_behind here qs q w (typed.0, typed.1, still_free here qs (text_of x) (no_module ds scoped (text_of x) new.0) own.0))
-  parameter_typed qs rs _ _ p w e = cc
+  parameter_typed qs rs _ _ p w e = absurd (not_given _ _ rs e)
 
   parameters_typed : (qs rs : List Param) (ts : List Node) → AreParams here qs → parameters ds qs ts ≡ given rs → AreParams here rs
   parameters_typed qs rs [] w e = subst (AreParams here) (given_is qs rs e) w
@@ -139,7 +139,7 @@ module _ (ds : Declarations) (scoped : IsTypedScope (declared ds)) where
         among_is qs (text_of x) a.0 (some_given (signatures_named ds qs (text_of x)) (UnknownName (text_of x)) (place_of x) a.0 a.1) (text_of f)
         ∙ sym (signature_is a.0 (text_of f)) ∙ some_given (signature_of a.0 (text_of f)) (UnknownName (text_of f)) (place_of f) b.0 b.1 in
         subst (λ (z : Oracle). IsKnown (oracle_in here qs z.parameter z.name)) (given_is (record { parameter = text_of x; name = text_of f }) o b.2) (subst IsKnown (sym there) tt)
-    oracle_typed _ _ p o e = cc
+    oracle_typed _ _ p o e = absurd (not_given _ _ o e)
 
     oracles_typed : (os all : List Oracle) (ts : List Node) → AreOracles here qs (Those os) → oracles ds qs os ts ≡ given all → AreOracles here qs (Those all)
     oracles_typed os all [] w e = subst (λ z. AreOracles here qs (Those z)) (given_is os all e) w
@@ -152,7 +152,7 @@ module _ (ds : Declarations) (scoped : IsTypedScope (declared ds)) where
     calls_typed head.Oracles xs p m e =
         let os = given_bind (oracles ds qs [] xs) (λ os. given (Those os)) m e in
         subst (AreOracles here qs) (given_is (Those os.0) m os.2) (oracles_typed [] os.0 xs tt os.1)
-    calls_typed _ xs p m e = cc
+    calls_typed _ xs p m e = absurd (not_given _ _ m e)
 
     signed_typed : (x fs r os : Node) (s : Signature) → signed ds qs x fs r os ≡ given s → (s.name ≡ text_of x) × IsSignature here qs s
     signed_typed x fs r os s e =
@@ -173,7 +173,7 @@ module _ (ds : Declarations) (scoped : IsTypedScope (declared ds)) where
         let k = signed_typed x fs r os s.0 s.1 in
         subst (AreSignatures here qs) (given_is (ss ++ s.0 ∷ []) rs s.2)
         (signatures_behind here qs ss s.0 w k.1 (ap (λ n. list_any (λ (z : Signature). bytes_eq z.name n) ss) k.0 ∙ own.0))
-    signature_typed ss rs _ _ p w e = cc
+    signature_typed ss rs _ _ p w e = absurd (not_given _ _ rs e)
 
     signatures_typed : (ss rs : List Signature) (ts : List Node) → AreSignatures here qs ss → signatures ds qs ss ts ≡ given rs → AreSignatures here qs rs
     signatures_typed ss rs [] w e = subst (AreSignatures here qs) (given_is ss rs e) w

@@ -49,7 +49,7 @@ use Rattle.gb_elab_laws.proofs.Around.{IsAround}
 use Rattle.gb_elab_laws.proofs.Around as program_around
 use Rattle.gb_elab_laws.proofs.Called as of_calls
 use Rattle.gb_elab_laws.proofs.Forms.{elaborated_typed, given_alike, sampled_alike, speaking_fits}
-use Rattle.gb_elab_laws.proofs.Given.{given_bind, given_is, if_given, none_some, out_type, some_given}
+use Rattle.gb_elab_laws.proofs.Given.{given_bind, given_is, if_given, none_some, not_given, out_type, some_given}
 use Rattle.gb_elab_laws.proofs.Operators.{changed}
 use Rattle.gb_elab_laws.proofs.Spoken.{hidden_speaks, speak_append}
 use Rattle.gb_elab_laws.proofs.MoreNames.{none_named}
@@ -134,8 +134,8 @@ module _ (ds : Declarations) (c : Context) (m : Module) (around : IsAround ds c 
       let k = distributions_over v.0.1 (type_of from.0) (variable_finite v.0.1 t.1) g.wanted in
       let made : variable_type (erased c) vs v.0.0 ≡ Some (outcome_type (type_of from.0)) = t.0 ∙ ap Some (sym k.1) in
       subst (IsMade) {x = Sample v.0.0 from.0} (given_is (Sample v.0.0 from.0) i from.2) ((expression (Some (ty.Distr v.0.1)) from.0 g, k.0, made), none_named from.0 g.apart)
-  sampling_typed x [] p i h = cc
-  sampling_typed x (d ∷ e ∷ es) p i h = cc
+  sampling_typed x [] p i h = absurd (not_given _ _ i h)
+  sampling_typed x (d ∷ e ∷ es) p i h = absurd (not_given _ _ i h)
 
   assignment_typed : (x : Name) (es : List Node) (p : Place) (i : Instr) → assignment here x es p ≡ given i → IsMade i
   unfolding assignment
@@ -148,8 +148,8 @@ module _ (ds : Declarations) (c : Context) (m : Module) (around : IsAround ds c 
       let finite : IsFinite (type_of u.0) = subst IsFinite (sym g.wanted) (variable_finite v.0.1 t.1) in
       subst (IsMade) {x = Assign (v.0.0 ∷ []) u.0} (given_is (Assign (v.0.0 ∷ []) u.0) i u.2)
       ((record { expression = expression (Some v.0.1) u.0 g; finite = finite }, made), none_named u.0 g.apart)
-  assignment_typed x [] p i h = cc
-  assignment_typed x (d ∷ e ∷ es) p i h = cc
+  assignment_typed x [] p i h = absurd (not_given _ _ i h)
+  assignment_typed x (d ∷ e ∷ es) p i h = absurd (not_given _ _ i h)
 
   tuple_typed : (ts es : List Node) (p : Place) (i : Instr) → tuple_assignment here ts es p ≡ given i → IsMade i
   unfolding tuple_assignment
@@ -161,18 +161,18 @@ module _ (ds : Declarations) (c : Context) (m : Module) (around : IsAround ds c 
       let finite : IsFinite (type_of u.0) = subst IsFinite (sym g.wanted) (all_finite ws.0 k) in
       subst (IsMade) {x = Assign (variables_of ws.0) u.0} (given_is (Assign (variables_of ws.0) u.0) i u.2)
       ((record { expression = expression (Some (type_of_all ws.0)) u.0 g; finite = finite }, all_take ws.0 (type_of u.0) k g.wanted), none_named u.0 g.apart)
-  tuple_typed ts [] p i h = cc
-  tuple_typed ts (d ∷ e ∷ es) p i h = cc
+  tuple_typed ts [] p i h = absurd (not_given _ _ i h)
+  tuple_typed ts (d ∷ e ∷ es) p i h = absurd (not_given _ _ i h)
 
   -- calls whose results variables take
   result_typed : (ws : List Target) → AreTargets ws → (k : Head) (xs : List Node) (p : Place) (i : Instr) → result_to here ws k xs p ≡ given i → IsMade i
   result_typed ws w k (x ∷ xs) p i h = call_typed ws w k x xs p i h
-  result_typed ws w k [] p i h = cc
+  result_typed ws w k [] p i h = absurd (not_given _ _ i h)
 
   called_typed : (ws : List Target) → AreTargets ws → (ks : List Node) (p : Place) (i : Instr) → called_to here ws ks p ≡ given i → IsMade i
   called_typed ws w (k ∷ []) p i h = result_typed ws w (head_of k) (parts_of k) (place_of k) i h
-  called_typed ws w [] p i h = cc
-  called_typed ws w (k ∷ l ∷ ks) p i h = cc
+  called_typed ws w [] p i h = absurd (not_given _ _ i h)
+  called_typed ws w (k ∷ l ∷ ks) p i h = absurd (not_given _ _ i h)
 
   result_in_typed : (x : Name) (ks : List Node) (p : Place) (i : Instr) → result_in here x ks p ≡ given i → IsMade i
   unfolding result_in
@@ -187,7 +187,7 @@ module _ (ds : Declarations) (c : Context) (m : Module) (around : IsAround ds c 
   written_typed : (ts : List Node) (k : Head) (es : List Node) (p : Place) (i : Instr) → written_to here ts k es p ≡ given i → IsMade i
   written_typed ts head.Assign es p i h = tuple_typed ts es p i h
   written_typed ts head.AssignCall ks p i h = results_in_typed ts ks p i h
-  written_typed ts _ es p i h = cc
+  written_typed ts _ es p i h = absurd (not_given _ _ i h)
 
   -- a variable is read in the own memory
   read_typed : (v : Target) → IsTarget v → Typed of_no_module inner Program v.1 (node (Read (read_of.Program v.0 side.Own)) [] v.1)
@@ -218,9 +218,9 @@ module _ (ds : Declarations) (c : Context) (m : Module) (around : IsAround ds c 
       let t = given_bind (given_or (entries v.0.1) TypeMismatch p) (λ (t : Ty × Ty). entry_stored here v.0 t k e) i v.2 in
       let is : v.0.1 ≡ ty.Map t.0.0 t.0.1 = map_of v.0.1 t.0 (some_given (entries v.0.1) TypeMismatch p t.0 t.1) in
       entry_typed v.0 (target_typed x p v.0 v.1) t.0 is k e i t.2
-  stored_typed x [] p i h = cc
-  stored_typed x (k ∷ []) p i h = cc
-  stored_typed x (k ∷ e ∷ d ∷ ds) p i h = cc
+  stored_typed x [] p i h = absurd (not_given _ _ i h)
+  stored_typed x (k ∷ []) p i h = absurd (not_given _ _ i h)
+  stored_typed x (k ∷ e ∷ d ∷ ds) p i h = absurd (not_given _ _ i h)
 
   instruction_typed : (k : Head) (x : Node) (xs : List Node) (p : Place) (i : Instr) → instruction here k x xs p ≡ given i → IsMade i
   instruction_typed head.Sample x xs p i h = sampling_typed (dotted (text_of x) (words xs)) (written xs) p i h
@@ -230,7 +230,7 @@ module _ (ds : Declarations) (c : Context) (m : Module) (around : IsAround ds c 
   instruction_typed head.Call x xs p i h = call_typed [] tt head.Call x xs p i h
   instruction_typed head.FunctorCall x xs p i h = call_typed [] tt head.FunctorCall x xs p i h
   instruction_typed head.TupleStatement ts (w ∷ []) p i h = written_typed (parts_of ts) (head_of w) (parts_of w) p i h
-  instruction_typed _ x xs p i h = cc
+  instruction_typed _ x xs p i h = absurd (not_given _ _ i h)
 
   both_made : (is js : List Instr) → AreMade is → AreMade js → AreMade (is ++ js)
   both_made is js h k = (typed_append c vs is js h.0 k.0, speak_append NoName is js h.1 k.1)
@@ -253,7 +253,7 @@ module _ (ds : Declarations) (c : Context) (m : Module) (around : IsAround ds c 
 
   single_typed : (k : Head) (xs : List Node) (p : Place) (is : List Instr) → single here k xs p ≡ given is → AreMade is
   single_typed k (x ∷ xs) p is h = alone_typed k x xs p is h
-  single_typed k [] p is h = cc
+  single_typed k [] p is h = absurd (not_given _ _ is h)
 
   branch_typed : (e : Node) (a b : Stating) → Gives a → Gives b → (is : List Instr) → branch here e a b ≡ given is → AreMade is
   branch_typed e a b f g is h =
@@ -284,7 +284,7 @@ module _ (ds : Declarations) (c : Context) (m : Module) (around : IsAround ds c 
       let u = if_given (counts_down k.0) k.0 TypeMismatch (place_inside s) v k.2 in
       let g = elaborated_typed s inner here [] fits None tt k.0 k.1 in
       subst IsVariant u.1 ((expression None k.0 g, modulo k.0 u.0), none_named k.0 g.apart)
-  variant_typed [] p v h = cc
+  variant_typed [] p v h = absurd (not_given _ _ v h)
 
   -- a loop, of which the statements behind the variant are typed
   turning_typed : (e l : Node) (b : Stating) → Gives b → (is : List Instr) → turning here e l b ≡ given is → AreMade is
@@ -306,9 +306,9 @@ module _ (ds : Declarations) (c : Context) (m : Module) (around : IsAround ds c 
 
   of_parts : (k : Head) (x : List ℕ) (ks : List Known) (p : Place) → Gives (stating k (parts ks) p)
   of_parts head.If x (e ∷ a ∷ b ∷ []) p is h = branch_typed e.0 (stated a.0) (stated b.0) a.1 b.1 is h
-  of_parts head.If x _ p is h = cc
+  of_parts head.If x _ p is h = absurd (not_given _ _ is h)
   of_parts head.While x (e ∷ l ∷ []) p is h = turning_typed e.0 l.0 (stated l.0) l.1 is h
-  of_parts head.While x _ p is h = cc
+  of_parts head.While x _ p is h = absurd (not_given _ _ is h)
   of_parts head.Loop x (v ∷ ks) p is h = list_typed ks is h
   of_parts head.NamedLoop x (v ∷ y ∷ t ∷ ks) p is h = begun_typed y.0 t.0 (all_stated (parts ks)) (list_typed ks) is h
   of_parts head.List x ks p is h = list_typed ks is h

@@ -31,7 +31,7 @@ use Rattle.gb_elab_prog.specs.ModuleTypes.{may_call, module_type_at, module_type
 use Rattle.gb_elab_prog.specs.Operators.{operator_entry}
 use Rattle.gb_elab_prog.specs.Procedures.{formals, result_type}
 use Rattle.gb_elab_prog.specs.Types.{only, new, constants as declared_constants, without, enumeration as declared_enumeration, enumeration_type, type_entries}
-use Rattle.gb_elab_laws.proofs.Given.{given_bind, given_is, if_refused, some_given}
+use Rattle.gb_elab_laws.proofs.Given.{given_bind, given_is, if_refused, not_given, some_given}
 use Rattle.gb_print_names.specs.declared.bound_names.Enumeration.{Enumeration}
 use Rattle.gb_print_names.specs.Names.{constants}
 use Rattle.gb_print.specs.Written.{is_name_text, is_name_there, is_path, is_path_there, is_word_here}
@@ -89,7 +89,7 @@ listed_last (e ∷ es) ds x ns k f = step (bytes_eq e.name x) refl (listed_last 
 
 none_behind : (ps : List Node) (added out : Declarations) → without ps added ≡ given out → added ≡ out
 none_behind [] added out e = given_is added out e
-none_behind (p ∷ ps) added out e = absurd (cc)
+none_behind (p ∷ ps) added out e = absurd (not_given _ _ out e)
 
 module _ (es : List Enumeration) (x : Node) (size : ℕ) (ns : List (List ℕ)) (found : constants es (text_of x) ≡ ns) (path : is_path (text_of x) ≡ true) where
   abbrev t : Ty
@@ -158,11 +158,11 @@ module _ (forms : OfForms) (es : List Enumeration) (ds : Declarations) (k : IsNa
       let a = given_bind (type_of ds t) _ added e in
       let u = forms.type es ds k t r.0 a.0 a.1 in
       subst (AddsNamed []) (given_is _ added a.2) (one_added x n (entry.Type a.0) (u.written, u.first))
-  types_named x n fresh head.TypeAlias [] ns r p added e = absurd (cc)
-  types_named x n fresh head.TypeAlias (t ∷ u ∷ ps) ns r p added e = absurd (cc)
+  types_named x n fresh head.TypeAlias [] ns r p added e = absurd (not_given _ _ added e)
+  types_named x n fresh head.TypeAlias (t ∷ u ∷ ps) ns r p added e = absurd (not_given _ _ added e)
   types_named x n fresh head.Enumeration (c ∷ cs) ns r p added e = enumeration_named x n fresh c cs ns added e
-  types_named x n fresh head.Enumeration [] ns r p added e = absurd (cc)
-  types_named x n fresh _ ps ns r p added e = absurd (cc)
+  types_named x n fresh head.Enumeration [] ns r p added e = absurd (not_given _ _ added e)
+  types_named x n fresh _ ps ns r p added e = absurd (not_given _ _ added e)
 
   -- the procedures that a module type asks for
   abbrev AreSignatures : List Signature → Type 0
@@ -184,10 +184,10 @@ module _ (forms : OfForms) (es : List Enumeration) (ds : Declarations) (k : IsNa
       let s = params_found qs w (text_of x) a.0 (some_given (signatures_of_parameter ds qs (text_of x)) (UnknownName (text_of x)) (place_of x) a.0 a.1) in
       let b = given_bind (given_or (signature_of a.0 (text_of f)) (UnknownName (text_of f)) (place_of f)) _ o a.2 in
       subst IsNamedOracle (given_is _ o b.2) (s.0, (signature_found a.0 s.1 (text_of f) b.0 (some_given (signature_of a.0 (text_of f)) (UnknownName (text_of f)) (place_of f) b.0 b.1)).0)
-  oracle_named qs w head.Oracle [] p o e = absurd (cc)
-  oracle_named qs w head.Oracle (x ∷ []) p o e = absurd (cc)
-  oracle_named qs w head.Oracle (x ∷ f ∷ y ∷ ns) p o e = absurd (cc)
-  oracle_named qs w _ ns p o e = absurd (cc)
+  oracle_named qs w head.Oracle [] p o e = absurd (not_given _ _ o e)
+  oracle_named qs w head.Oracle (x ∷ []) p o e = absurd (not_given _ _ o e)
+  oracle_named qs w head.Oracle (x ∷ f ∷ y ∷ ns) p o e = absurd (not_given _ _ o e)
+  oracle_named qs w _ ns p o e = absurd (not_given _ _ o e)
 
   oracles_named : (qs : List Param) → AllByRecursion IsNamedParam qs → (os : List Oracle) → AllByRecursion IsNamedOracle os → (ts : List Node) (us : List Oracle) → oracles ds qs os ts ≡ given us → AllByRecursion IsNamedOracle us
   oracles_named qs w os v [] us e = subst (AllByRecursion IsNamedOracle) (given_is os us e) v
@@ -198,7 +198,7 @@ module _ (forms : OfForms) (es : List Enumeration) (ds : Declarations) (k : IsNa
   may_call_named : (qs : List Param) → AllByRecursion IsNamedParam qs → (h : Head) (ns : List Node) (p : Place) (m : MayCall) → may_call ds qs h ns p ≡ given m → AreNamedOracles m
   may_call_named qs w head.AllOracles ns p m e = subst AreNamedOracles (given_is _ m e) tt
   may_call_named qs w head.Oracles ns p m e = let a = given_bind (oracles ds qs [] ns) _ m e in subst AreNamedOracles (given_is _ m a.2) (oracles_named qs w [] tt ns a.0 a.1)
-  may_call_named qs w _ ns p m e = absurd (cc)
+  may_call_named qs w _ ns p m e = absurd (not_given _ _ m e)
 
   signed_named : (qs : List Param) → AllByRecursion IsNamedParam qs → (x : Node) → IsName x → (fs r os : Node) → IsReadTree fs → IsReadTree r → (s : Signature) → signed ds qs x fs r os ≡ given s → IsNamedSignature s
   signed_named qs w x n fs r os h u s e =
@@ -217,12 +217,12 @@ module _ (forms : OfForms) (es : List Enumeration) (ds : Declarations) (k : IsNa
       let a = given_bind (unsigned ss x) _ us e in
       let b = given_bind (signed ds qs x fs r os) _ us a.2 in
       subst AreSignatures (given_is _ us b.2) (all_append IsNamedSignature ss (b.0 ∷ []) w (signed_named qs v x n fs r os m.1.0 m.1.1.0 b.0 b.1, tt))
-  signature_named qs v ss w head.Signature [] n m p us e = absurd (cc)
-  signature_named qs v ss w head.Signature (x ∷ []) n m p us e = absurd (cc)
-  signature_named qs v ss w head.Signature (x ∷ a ∷ []) n m p us e = absurd (cc)
-  signature_named qs v ss w head.Signature (x ∷ a ∷ b ∷ []) n m p us e = absurd (cc)
-  signature_named qs v ss w head.Signature (x ∷ a ∷ b ∷ c ∷ d ∷ ns) n m p us e = absurd (cc)
-  signature_named qs v ss w _ ns n m p us e = absurd (cc)
+  signature_named qs v ss w head.Signature [] n m p us e = absurd (not_given _ _ us e)
+  signature_named qs v ss w head.Signature (x ∷ []) n m p us e = absurd (not_given _ _ us e)
+  signature_named qs v ss w head.Signature (x ∷ a ∷ []) n m p us e = absurd (not_given _ _ us e)
+  signature_named qs v ss w head.Signature (x ∷ a ∷ b ∷ []) n m p us e = absurd (not_given _ _ us e)
+  signature_named qs v ss w head.Signature (x ∷ a ∷ b ∷ c ∷ d ∷ ns) n m p us e = absurd (not_given _ _ us e)
+  signature_named qs v ss w _ ns n m p us e = absurd (not_given _ _ us e)
 
   signatures_named : (qs : List Param) → AllByRecursion IsNamedParam qs → (ss : List Signature) → AreSignatures ss → (ts : List Node) → AreRead ts → (us : List Signature) → signatures ds qs ss ts ≡ given us → AreSignatures us
   signatures_named qs v ss w [] r us e = subst AreSignatures (given_is ss us e) w
@@ -237,10 +237,10 @@ module _ (forms : OfForms) (es : List Enumeration) (ds : Declarations) (k : IsNa
       let b = given_bind (module_type_at ds t) _ us a.2 in
       let c = given_bind (without_parameters (let m = b.0 in m.params) (place_of t)) _ us b.2 in
       subst (AllByRecursion IsNamedParam) (given_is _ us c.2) (all_append IsNamedParam qs (param x t ∷ []) w (n, tt))
-  parameter_named qs w head.ModuleParameter [] n p us e = absurd (cc)
-  parameter_named qs w head.ModuleParameter (x ∷ []) n p us e = absurd (cc)
-  parameter_named qs w head.ModuleParameter (x ∷ t ∷ u ∷ ns) n p us e = absurd (cc)
-  parameter_named qs w _ ns n p us e = absurd (cc)
+  parameter_named qs w head.ModuleParameter [] n p us e = absurd (not_given _ _ us e)
+  parameter_named qs w head.ModuleParameter (x ∷ []) n p us e = absurd (not_given _ _ us e)
+  parameter_named qs w head.ModuleParameter (x ∷ t ∷ u ∷ ns) n p us e = absurd (not_given _ _ us e)
+  parameter_named qs w _ ns n p us e = absurd (not_given _ _ us e)
 
   parameters_named : (qs : List Param) → AllByRecursion IsNamedParam qs → (ts : List Node) → AreRead ts → (us : List Param) → parameters ds qs ts ≡ given us → AllByRecursion IsNamedParam us
   parameters_named qs w [] r us e = subst (AllByRecursion IsNamedParam) (given_is qs us e) w
@@ -263,22 +263,22 @@ module _ (forms : OfForms) (es : List Enumeration) (ds : Declarations) (k : IsNa
       let a = given_bind (free ds x) _ added e in
       let f = if_refused (is_some (entry_of ds (text_of x))) _ _ _ _ a.1 in
       types_named x n f.0 (head_of d) (parts_of d) (names_of d r.1.0) (parts_read d r.1.0) (place_of d) added a.2
-  entries_by_named head.TypeDeclaration [] n r p added e = absurd (cc)
-  entries_by_named head.TypeDeclaration (x ∷ []) n r p added e = absurd (cc)
-  entries_by_named head.TypeDeclaration (x ∷ d ∷ y ∷ ps) n r p added e = absurd (cc)
+  entries_by_named head.TypeDeclaration [] n r p added e = absurd (not_given _ _ added e)
+  entries_by_named head.TypeDeclaration (x ∷ []) n r p added e = absurd (not_given _ _ added e)
+  entries_by_named head.TypeDeclaration (x ∷ d ∷ y ∷ ps) n r p added e = absurd (not_given _ _ added e)
   entries_by_named head.OperatorDeclaration (x ∷ d ∷ []) n r p added e =
       let a = given_bind (free ds x) _ added e in
       let b = given_bind (operator_entry ds (head_of d) (parts_of d) (place_of d)) _ added a.2 in
       subst (AddsNamed []) (given_is _ added b.2) (one_added x n b.0 (operator_entry_named forms es ds k (head_of d) (parts_of d) (parts_read d r.1.0) (place_of d) b.0 b.1))
-  entries_by_named head.OperatorDeclaration [] n r p added e = absurd (cc)
-  entries_by_named head.OperatorDeclaration (x ∷ []) n r p added e = absurd (cc)
-  entries_by_named head.OperatorDeclaration (x ∷ d ∷ y ∷ ps) n r p added e = absurd (cc)
+  entries_by_named head.OperatorDeclaration [] n r p added e = absurd (not_given _ _ added e)
+  entries_by_named head.OperatorDeclaration (x ∷ []) n r p added e = absurd (not_given _ _ added e)
+  entries_by_named head.OperatorDeclaration (x ∷ d ∷ y ∷ ps) n r p added e = absurd (not_given _ _ added e)
   entries_by_named head.ModuleType (x ∷ qs ∷ ss ∷ []) n r p added e = module_type_named x n (parts_of qs) (parts_of ss) (parts_read qs r.1.0) (parts_read ss r.1.1.0) added e
-  entries_by_named head.ModuleType [] n r p added e = absurd (cc)
-  entries_by_named head.ModuleType (x ∷ []) n r p added e = absurd (cc)
-  entries_by_named head.ModuleType (x ∷ qs ∷ []) n r p added e = absurd (cc)
-  entries_by_named head.ModuleType (x ∷ qs ∷ ss ∷ y ∷ ps) n r p added e = absurd (cc)
-  entries_by_named _ ps n r p added e = absurd (cc)
+  entries_by_named head.ModuleType [] n r p added e = absurd (not_given _ _ added e)
+  entries_by_named head.ModuleType (x ∷ []) n r p added e = absurd (not_given _ _ added e)
+  entries_by_named head.ModuleType (x ∷ qs ∷ []) n r p added e = absurd (not_given _ _ added e)
+  entries_by_named head.ModuleType (x ∷ qs ∷ ss ∷ y ∷ ps) n r p added e = absurd (not_given _ _ added e)
+  entries_by_named _ ps n r p added e = absurd (not_given _ _ added e)
 
   -- what a command declares
   pub entries_named : (t : Node) → IsReadTree t → (added : Declarations) → entries_given ds t ≡ given added → AddsNamed (enumerated (head_of t) (parts_of t)) added

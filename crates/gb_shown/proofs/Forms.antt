@@ -65,6 +65,7 @@ use Rattle.gb_shown.specs.Named.{IsNamedType, IsNamedResult, IsNamed}
 use Rattle.gb_shown.proofs.SpeltTrees.{AllNamed, node_named}
 use Rattle.gb_shown.specs.Scopes.{IsNamedLocal, IsNamedScope, IsNamedSetting, AreNamedBindings, IsNamedWanted}
 use Rattle.gb_shown.specs.Trees.{HasItsParts, IsFull}
+use Rattle.gb_elab_laws.proofs.Given.{none_some}
 use Rattle.gb_shown.proofs.Given.{given_bind, given_is, not_given, if_allowed, if_none, if_refused, if_some, some_given, chosen, either}
 use Rattle.gb_shown.proofs.Types.{as_result}
 use Rattle.gb_shown.proofs.FoundInForms.{constant_found, operator_found}
@@ -212,7 +213,7 @@ module _ (es : List Enumeration) where
           (if t then by_rule (rule_for o true b) (with_meanings (b ∷ a ∷ [])) p at bs w else by_rule (rule_for o false b) (with_meanings (a ∷ b ∷ [])) p at bs w) ≡ given u → IsNamed es u
       step true h = rule_named (rule_for o true b) (rule_known o n true b) (b ∷ a ∷ []) (k.1.0, (k.0, tt)) (rule_ready o true b 2) p at bs fit bound w f u h
       step false h = rule_named (rule_for o false b) (rule_known o n false b) (a ∷ b ∷ []) k (rule_ready o false b 2) p at bs fit bound w f u h
-  operation_named _ n _ k p at bs fit bound w f u e = cc
+  operation_named _ n _ k p at bs fit bound w f u e = absurd (not_given _ _ u e)
 
   -- a comparison
   comparing_named : (o : Option (Seen × Seen)) (x : Name) (ns : List Node) → AreKnown ns → (p : Place) → GivesNamed (comparing o x (with_meanings ns) p)
@@ -242,18 +243,18 @@ module _ (es : List Enumeration) where
   annotated_named (a ∷ s ∷ []) k p at bs fit bound w f u e =
       let t = given_bind (type_or_number at.declared s) (λ t. by_rule (rule.Annotated t) (with_meanings (a ∷ [])) p at bs w) u e in
       rule_named (rule.Annotated t.0) (as_result t.0 (measured_named es at.declared fit.scope s k.1.0.0 t.0 t.1)) (a ∷ []) (k.0, tt) tt p at bs fit bound w f u t.2
-  annotated_named _ k p at bs fit bound w f u e = cc
+  annotated_named _ k p at bs fit bound w f u e = absurd (not_given _ _ u e)
 
   projection_named : (ns : List Node) → AreKnown ns → (p : Place) → GivesNamed (projection (with_meanings ns) p)
   projection_named (a ∷ n ∷ []) k p at bs fit bound w f u e = rule_named (rule.Part (part_number (text_of n)) (place_of n)) (part_range (text_of n)) (a ∷ []) (k.0, tt) tt p at bs fit bound w f u e
-  projection_named _ k p at bs fit bound w f u e = cc
+  projection_named _ k p at bs fit bound w f u e = absurd (not_given _ _ u e)
 
   summed_named : (ns : List Node) → AreKnown ns → (p : Place) → GivesNamed (summed (with_meanings ns) p)
   summed_named (q ∷ g ∷ []) k p at bs fit bound w f u e =
       let x = given_bind (stands at w p ty.Real) _ u e in
       let n = given_bind (bound_of q) (λ n. by_rule (rule.Sum n) (with_meanings (g ∷ [])) p at bs w) u x.2 in
       rule_named (rule.Sum n.0) (bound_range q n.0 n.1) (g ∷ []) k.1 tt p at bs fit bound w f u n.2
-  summed_named _ k p at bs fit bound w f u e = cc
+  summed_named _ k p at bs fit bound w f u e = absurd (not_given _ _ u e)
 
   -- built-in operators at arguments
   abbrev IsReadyRule : Rule → Type 0
@@ -267,7 +268,7 @@ module _ (es : List Enumeration) where
   rule_good known.Dmap n r e = let k = if_some (n == 2) (rule.Drawn Image) r e in subst IsReadyRule k.1 (tt, λ n. tt)
   rule_good known.Drestrict n r e = let k = if_some (n == 2) (rule.Drawn Restriction) r e in subst IsReadyRule k.1 (tt, λ n. tt)
   rule_good known.Mu1 n r e = let k = if_some (n == 2) rule.Mass r e in subst IsReadyRule k.1 (tt, λ n. tt)
-  rule_good _ n r e = cc
+  rule_good _ n r e = none_some r e
 
   by_built_in : (b : BuiltIn) (ns : List Node) → AreKnown ns → (p : Place) → GivesNamed (λ at bs w. given_or (rule_of b (length (with_meanings ns))) TypeMismatch p >>= λ r. by_rule r (with_meanings ns) p at bs w)
   by_built_in b ns k p at bs fit bound w f u e =
@@ -296,11 +297,11 @@ module _ (es : List Enumeration) where
   application_named : (h : Head) (x : Name) (ms ns : List Node) → AreKnown ns → (p : Place) → GivesNamed (application h x ms (with_meanings ns) p)
   application_named head.Name x ms ns k p at bs fit bound w f u e = applied_named x ns k p at bs fit bound w f u e
   application_named head.Path x ms ns k p at bs fit bound w f u e = applied_named (path ms) ns k p at bs fit bound w f u e
-  application_named _ x ms ns k p at bs fit bound w f u e = cc
+  application_named _ x ms ns k p at bs fit bound w f u e = absurd (not_given _ _ u e)
 
   applied_form_named : (ns : List Node) → AreKnown ns → (p : Place) → GivesNamed (applied_form (with_meanings ns) p)
   applied_form_named (a ∷ ns) k p at bs fit bound w f u e = application_named (head_of a) (text_of a) (parts_of a) ns k.1 p at bs fit bound w f u e
-  applied_form_named [] k p at bs fit bound w f u e = cc
+  applied_form_named [] k p at bs fit bound w f u e = absurd (not_given _ _ u e)
 
   quantified_named : (x : Name) (ns : List Node) → AreKnown ns → (p : Place) → GivesNamed (quantified x (with_meanings ns) p)
   quantified_named x (b ∷ a ∷ []) k p at bs fit bound w f u h =
@@ -310,7 +311,7 @@ module _ (es : List Enumeration) where
       let named = binders_named es at fit.scope [] (parts_of b) (parts_full b k.0.0) c.0 tt c.1 in
       let r = given_bind (elaborated a at (reverse c.0 ++ bs) (Some ty.Bool)) (λ t. given (over_all q.0 c.0 t)) u c.2 in
       given_named (over_all q.0 c.0 r.0) u (over_all_named es q.0 c.0 r.0 named (k.1.0.1.0 at (reverse c.0 ++ bs) fit (inner_bound c.0 bs named bound) (Some ty.Bool) tt r.0 r.1)) r.2
-  quantified_named x _ k p at bs fit bound w f u h = cc
+  quantified_named x _ k p at bs fit bound w f u h = absurd (not_given _ _ u h)
 
   equivalence_named : (ns : List Node) → AreKnown ns → (p : Place) → GivesNamed (equivalence (with_meanings ns) p)
   equivalence_named (m ∷ g ∷ a ∷ b ∷ []) k p at bs fit bound w f u h =
@@ -327,7 +328,7 @@ module _ (es : List Enumeration) where
       (equivalent_named es l.0 r.0 pre.0 post.0 left.written right.written
       (k.1.1.0.1.0 (before at l.1 r.1) bs (before_named es at fit l.1 r.1 left.typed right.typed) bound (Some ty.Bool) tt pre.0 pre.1)
       (k.1.1.1.0.1.0 (after at l.1 r.1) bs (after_named es at fit l.1 r.1 left.typed right.typed) bound (Some ty.Bool) tt post.0 post.1)) post.2
-  equivalence_named _ k p at bs fit bound w f u h = cc
+  equivalence_named _ k p at bs fit bound w f u h = absurd (not_given _ _ u h)
 
   contract_named : (ns : List Node) → AreKnown ns → (p : Place) → GivesContracts (contract (with_meanings ns) p)
   contract_named (m ∷ a ∷ b ∷ []) k p at bs fit bound c h =
@@ -342,7 +343,7 @@ module _ (es : List Enumeration) where
         pre = k.1.0.1.0 (before_one at n.0.1) bs (before_one_named es at fit n.0.1 there.typed) bound (Some ty.Bool) tt pre.0 pre.1;
         post = k.1.1.0.1.0 (after_one at n.0.1) bs (after_one_named es at fit n.0.1 there.typed) bound (Some ty.Bool) tt post.0 post.1;
       })
-  contract_named _ k p at bs fit bound c h = cc
+  contract_named _ k p at bs fit bound c h = absurd (not_given _ _ c h)
 
   hoare_named : (ns : List Node) → AreKnown ns → (p : Place) → GivesNamed (hoare (with_meanings ns) p)
   hoare_named ns k p at bs fit bound w f u h =
@@ -358,7 +359,7 @@ module _ (es : List Enumeration) where
       let b = given_bind (elaborated r (around at) bs (Some ty.Real)) (λ (t : Term). given (with_chance c.0 s.0 t)) u c.2 in
       given_named (with_chance c.0 s.0 b.0) u
       (with_chance_named es c.0 s.0 b.0 (k.0.1.2 at bs fit bound c.0 c.1) (k.1.0.1.0 (around at) bs (around_named es at fit) bound (Some ty.Real) tt b.0 b.1)) b.2
-  bounded_named x _ k p at bs fit bound w f u h = cc
+  bounded_named x _ k p at bs fit bound w f u h = absurd (not_given _ _ u h)
 
   chance_named : (g : ProcRef) (s : Side) (ts : List Term) (e : Term) → IsWrittenProcedure [] g → AllNamed es ts → IsNamed es e → IsNamed es (chance g s ts e)
   chance_named g s ts e h k x = node_named es (Pr g s) (ts ++ e ∷ []) ty.Real h tt (all_behind ts e k x)
@@ -374,18 +375,18 @@ module _ (es : List Enumeration) where
       let args = k.0.1.3 (before_call at (text_of m)) bs (before_call_named es at fit (text_of m)) bound n.0.1.params (parameters_named es n.0.1 there.typed) (place_of c) ts.0 ts.1 in
       let event = k.1.1.0.1.0 (after_one at n.0.1) bs (after_one_named es at fit n.0.1 there.typed) bound (Some ty.Bool) tt e.0 e.1 in
       given_named (chance n.0.0 s.0 ts.0 e.0) u (chance_named n.0.0 s.0 ts.0 e.0 there.written args event) e.2
-  probability_named _ k p at bs fit bound w f u h = cc
+  probability_named _ k p at bs fit bound w f u h = absurd (not_given _ _ u h)
 
   -- a form with a side
   with_side_named : (ns : List Node) (p : Place) → GivesNamed (with_side ns p)
   with_side_named (a ∷ s ∷ []) p at bs fit bound w f u e =
       let q = given_bind (read at bs (head_of a) (text_of a) (parts_of a) (place_of a) s) (wanted w p) u e in
       wanted_named es w p q.0 u (form_read es at fit bs bound (head_of a) (text_of a) (parts_of a) (place_of a) s q.0 q.1) q.2
-  with_side_named _ p at bs fit bound w f u e = cc
+  with_side_named _ p at bs fit bound w f u e = absurd (not_given _ _ u e)
 
   bracketed_named : (ns : List Node) → AreKnown ns → (p : Place) → GivesNamed (bracketed (with_meanings ns) p)
   bracketed_named (a ∷ []) k p at bs fit bound w f u e = k.0.1.0 at bs fit bound w f u e
-  bracketed_named _ k p at bs fit bound w f u e = cc
+  bracketed_named _ k p at bs fit bound w f u e = absurd (not_given _ _ u e)
 
   tuple_ready : (n : ℕ) (ns : List Node) → HasItsParts head.Tuple ns → AreReady (rule.Tuple n) [] (length ns)
   tuple_ready n (a ∷ b ∷ ns) h = omega arith
@@ -401,8 +402,8 @@ module _ (es : List Enumeration) where
   form_parts head.Bracketed x ns y k p at bs fit bound w f u e = bracketed_named ns k p at bs fit bound w f u e
   form_parts head.Sided x ns y k p at bs fit bound w f u e = with_side_named (bare (with_meanings ns)) p at bs fit bound w f u e
   form_parts head.Coin x ns y k p at bs fit bound w f u e = coin_named es at w p u e
-  form_parts head.Function x ns y k p at bs fit bound w f u e = cc
-  form_parts head.TypedFunction x ns y k p at bs fit bound w f u e = cc
+  form_parts head.Function x ns y k p at bs fit bound w f u e = absurd (not_given _ _ u e)
+  form_parts head.TypedFunction x ns y k p at bs fit bound w f u e = absurd (not_given _ _ u e)
   form_parts head.Typed x ns y k p at bs fit bound w f u e = annotated_named ns k p at bs fit bound w f u e
   form_parts head.Tuple x ns y k p at bs fit bound w f u e =
       rule_named (rule.Tuple (length (with_meanings ns))) tt ns k (tuple_ready (length (with_meanings ns)) ns y) p at bs fit bound w f u e
@@ -452,7 +453,7 @@ module _ (es : List Enumeration) where
       let x = given_bind (only (parts_of xs) p) _ u e in
       let t = given_bind (written_as at.declared d s) (λ t. value_of (text_of x.0) t (a, meant a) at bs w) u x.2 in
       k.1.1.0.1.0 at (value_named (text_of x.0) t.0 ∷ bs) fit (written_named at.declared fit.scope d s k.1.0.0 t.0 t.1, bound) w f u t.2
-  function_parts _ _ k p d n at bs fit bound w f u e = cc
+  function_parts _ _ k p d n at bs fit bound w f u e = absurd (not_given _ _ u e)
 
   -- arguments behind those that are typed
   module _ (at : Environment) (bs : List Binding) (fit : IsNamedSetting es at) (bound : AreNamedBindings bs) (p : Place) where
@@ -460,15 +461,15 @@ module _ (es : List Enumeration) where
         arguments p at bs ds xs (with_meanings ns) ≡ given ts → AllNamed es ts
     unfolding arguments
     behind_named ds h [] n [] k ts e = subst (AllNamed es) (given_is ds ts e) h
-    behind_named ds h (x ∷ xs) n [] k ts e = cc
-    behind_named ds h [] n (a ∷ ns) k ts e = cc
+    behind_named ds h (x ∷ xs) n [] k ts e = absurd (not_given _ _ ts e)
+    behind_named ds h [] n (a ∷ ns) k ts e = absurd (not_given _ _ ts e)
     behind_named ds h (x ∷ xs) n (a ∷ ns) k ts e =
         let t = given_bind (elaborated a at bs (Some x.ty)) (λ t. arguments p at bs (ds ++ t ∷ []) xs (with_meanings ns)) ts e in
         let g = k.0.1.0 at bs fit bound (Some x.ty) (as_result x.ty n.0.1) t.0 t.1 in
         behind_named (ds ++ t.0 ∷ []) (all_behind ds t.0 h g) xs n.1 ns k.1 ts t.2
 
   last_named : (ns : List Node) → AreKnown ns → (i : ℕ) → GivesArguments (last_arguments (slice_get (with_meanings ns) i))
-  last_named [] k i at bs fit bound xs n p ts e = cc
+  last_named [] k i at bs fit bound xs n p ts e = absurd (not_given _ _ ts e)
   last_named (a ∷ ns) k zero at bs fit bound xs n p ts e = k.0.1.3 at bs fit bound xs n p ts e
   last_named (a ∷ ns) k (suc i) at bs fit bound xs n p ts e = last_named ns k.1 i at bs fit bound xs n p ts e
 
@@ -478,11 +479,11 @@ module _ (es : List Enumeration) where
   argument_parts head.List ns k at bs fit bound xs n p ts e =
       let r = if_refused (nat_lt (length (with_meanings ns)) (length xs)) TypeMismatch p (arguments p at bs [] xs (with_meanings ns)) ts e in
       behind_named at bs fit bound p [] tt xs n ns k ts r.1
-  argument_parts _ ns k at bs fit bound xs n p ts e = cc
+  argument_parts _ ns k at bs fit bound xs n p ts e = absurd (not_given _ _ ts e)
 
   contract_parts : (h : Head) (ns : List Node) → AreKnown ns → (p : Place) → GivesContracts (contracting h (with_meanings ns) p)
   contract_parts head.Phoare ns k p at bs fit bound c e = contract_named ns k p at bs fit bound c e
-  contract_parts _ ns k p at bs fit bound c e = cc
+  contract_parts _ ns k p at bs fit bound c e = absurd (not_given _ _ c e)
 
   all_parts : (h : Head) (x : Name) (ns : List Node) → HasItsParts h ns → AreKnown ns → (p : Place) → IsNamedMeaning (meaning h x (with_meanings ns) p)
   all_parts h x ns y k p = (form_parts h x ns y k p, function_parts h ns k p, contract_parts h ns k p, argument_parts h ns k)

@@ -30,7 +30,7 @@ use Rattle.gb_elab_prog.specs.Stated.{Stated, meets_stated, stated}
 use Rattle.gb_elab_prog.specs.declared.stated.Where.{Where}
 use Rattle.gb_elab_prog.specs.declared.stated.Where.TheVariants.{Front, Behind}
 use Rattle.gb_elab_prog.specs.Procedures.{untaken, result_type, lacks_value, value, undeclared, formal, formals, declared, variables, locals, with_result, result_of, procedure_by}
-use Rattle.gb_elab_laws.proofs.Given.{given_bind, given_is, if_refused}
+use Rattle.gb_elab_laws.proofs.Given.{given_bind, given_is, if_refused, not_given}
 use Rattle.gb_print_names.specs.declared.bound_names.Enumeration.{Enumeration}
 use Rattle.gb_shown.specs.Named.{IsNamed, IsNamedType, IsNamedVariable, IsNamedSequent}
 use Rattle.gb_shown.specs.Rules.{IsNamedLocal}
@@ -57,10 +57,10 @@ module _ (forms : OfForms) (es : List Enumeration) (ds : Declarations) (k : IsNa
       let a = given_bind (undeclared vs x) _ ws e in
       let b = given_bind (type_of ds t) _ ws a.2 in
       subst AreLocals (given_is _ ws b.2) (all_append (IsNamedLocal es) vs _ l (local_named x n b.0 (forms.type es ds k t r.1.0 b.0 b.1), tt))
-  formal_named vs l head.Formal [] n r p ws e = absurd (cc)
-  formal_named vs l head.Formal (x ∷ []) n r p ws e = absurd (cc)
-  formal_named vs l head.Formal (x ∷ t ∷ u ∷ ps) n r p ws e = absurd (cc)
-  formal_named vs l _ ps n r p ws e = absurd (cc)
+  formal_named vs l head.Formal [] n r p ws e = absurd (not_given _ _ ws e)
+  formal_named vs l head.Formal (x ∷ []) n r p ws e = absurd (not_given _ _ ws e)
+  formal_named vs l head.Formal (x ∷ t ∷ u ∷ ps) n r p ws e = absurd (not_given _ _ ws e)
+  formal_named vs l _ ps n r p ws e = absurd (not_given _ _ ws e)
 
   pub formals_named : (vs : List TypedName) → AreLocals vs → (fs : List Node) → AreRead fs → (ws : List TypedName) → formals ds vs fs ≡ given ws → AreLocals ws
   formals_named vs l [] r ws e = subst AreLocals (given_is vs ws e) l
@@ -78,10 +78,10 @@ module _ (forms : OfForms) (es : List Enumeration) (ds : Declarations) (k : IsNa
   variables_named : (ps vs : List TypedName) → AreLocals vs → (h : Head) (ns : List Node) → HasItsNames h ns → AreRead ns → (p : Place) (ws : List TypedName) → variables ds ps vs h ns p ≡ given ws → AreLocals ws
   variables_named ps vs l head.Variables (xs ∷ t ∷ []) n r p ws e =
       let a = given_bind (type_of ds t) _ ws e in declared_named ps vs l (parts_of xs) n a.0 (forms.type es ds k t r.1.0 a.0 a.1) ws a.2
-  variables_named ps vs l head.Variables [] n r p ws e = absurd (cc)
-  variables_named ps vs l head.Variables (x ∷ []) n r p ws e = absurd (cc)
-  variables_named ps vs l head.Variables (x ∷ t ∷ u ∷ ns) n r p ws e = absurd (cc)
-  variables_named ps vs l _ ns n r p ws e = absurd (cc)
+  variables_named ps vs l head.Variables [] n r p ws e = absurd (not_given _ _ ws e)
+  variables_named ps vs l head.Variables (x ∷ []) n r p ws e = absurd (not_given _ _ ws e)
+  variables_named ps vs l head.Variables (x ∷ t ∷ u ∷ ns) n r p ws e = absurd (not_given _ _ ws e)
+  variables_named ps vs l _ ns n r p ws e = absurd (not_given _ _ ws e)
 
   locals_named : (ps vs : List TypedName) → AreLocals vs → (bs : List Node) → AreRead bs → (ws : List TypedName) → locals ds ps vs bs ≡ given ws → AreLocals ws
   locals_named ps vs l [] r ws e = subst AreLocals (given_is vs ws e) l
@@ -119,14 +119,14 @@ module _ (forms : OfForms) (es : List Enumeration) (ds : Declarations) (k : IsNa
       let t = subst IsNamedType (given_is u.0 d.0 w.1) (result_named (parts_of rs) (parts_read rs r.1.1.0) u.0 u.1) in
       procedure_given q c m i x n b.0 (formals_named [] tt (parts_of fs) (parts_read fs r.1.0) b.0 b.1) (parts_of ls) (parts_of ss) (parts_of vs) (parts_read ls r.1.1.1.0) (parts_read ss r.1.1.1.1.0)
       (parts_read vs r.1.1.1.1.1.0) d.0 t f d.2
-  procedure_named q c m i head.Procedure [] n r p f e = absurd (cc)
-  procedure_named q c m i head.Procedure (x ∷ []) n r p f e = absurd (cc)
-  procedure_named q c m i head.Procedure (x ∷ a ∷ []) n r p f e = absurd (cc)
-  procedure_named q c m i head.Procedure (x ∷ a ∷ b ∷ []) n r p f e = absurd (cc)
-  procedure_named q c m i head.Procedure (x ∷ a ∷ b ∷ d ∷ []) n r p f e = absurd (cc)
-  procedure_named q c m i head.Procedure (x ∷ a ∷ b ∷ d ∷ g ∷ []) n r p f e = absurd (cc)
-  procedure_named q c m i head.Procedure (x ∷ a ∷ b ∷ d ∷ g ∷ h ∷ j ∷ ns) n r p f e = absurd (cc)
-  procedure_named q c m i _ ns n r p f e = absurd (cc)
+  procedure_named q c m i head.Procedure [] n r p f e = absurd (not_given _ _ f e)
+  procedure_named q c m i head.Procedure (x ∷ []) n r p f e = absurd (not_given _ _ f e)
+  procedure_named q c m i head.Procedure (x ∷ a ∷ []) n r p f e = absurd (not_given _ _ f e)
+  procedure_named q c m i head.Procedure (x ∷ a ∷ b ∷ []) n r p f e = absurd (not_given _ _ f e)
+  procedure_named q c m i head.Procedure (x ∷ a ∷ b ∷ d ∷ []) n r p f e = absurd (not_given _ _ f e)
+  procedure_named q c m i head.Procedure (x ∷ a ∷ b ∷ d ∷ g ∷ []) n r p f e = absurd (not_given _ _ f e)
+  procedure_named q c m i head.Procedure (x ∷ a ∷ b ∷ d ∷ g ∷ h ∷ j ∷ ns) n r p f e = absurd (not_given _ _ f e)
+  procedure_named q c m i _ ns n r p f e = absurd (not_given _ _ f e)
 
   -- Modules.
 
@@ -174,10 +174,10 @@ module _ (forms : OfForms) (es : List Enumeration) (ds : Declarations) (k : IsNa
 
   parameter_named : (m : Module) → IsNamedModule es m → (h : Head) (ns : List Node) → HasItsNames h ns → (p : Place) (o : Module) → with_parameter ds m h ns p ≡ given o → IsNamedModule es o
   parameter_named m i head.ModuleParameter (x ∷ t ∷ []) n p o e = typed_parameter_named m i x n t o e
-  parameter_named m i head.ModuleParameter [] n p o e = absurd (cc)
-  parameter_named m i head.ModuleParameter (x ∷ []) n p o e = absurd (cc)
-  parameter_named m i head.ModuleParameter (x ∷ t ∷ u ∷ ns) n p o e = absurd (cc)
-  parameter_named m i _ ns n p o e = absurd (cc)
+  parameter_named m i head.ModuleParameter [] n p o e = absurd (not_given _ _ o e)
+  parameter_named m i head.ModuleParameter (x ∷ []) n p o e = absurd (not_given _ _ o e)
+  parameter_named m i head.ModuleParameter (x ∷ t ∷ u ∷ ns) n p o e = absurd (not_given _ _ o e)
+  parameter_named m i _ ns n p o e = absurd (not_given _ _ o e)
 
   parameters_named : (m : Module) → IsNamedModule es m → (ts : List Node) → AreRead ts → (o : Module) → with_parameters ds m ts ≡ given o → IsNamedModule es o
   parameters_named m i [] r o e = subst (IsNamedModule es) (given_is m o e) i
@@ -211,18 +211,18 @@ module _ (forms : OfForms) (es : List Enumeration) (ds : Declarations) (k : IsNa
 
   module_by_named : (h : Head) (ns : List Node) → HasItsNames h ns → AreRead ns → (p : Place) (o : Module) → module_by ds h ns p ≡ given o → IsNamedModule es o
   module_by_named head.Module (x ∷ qs ∷ m ∷ ts ∷ []) n r p o e = plain_named x n (parts_of qs) (parts_read qs r.1.0) (parts_of m) (parts_of ts) (parts_read ts r.1.1.1.0) o e
-  module_by_named head.Module [] n r p o e = absurd (cc)
-  module_by_named head.Module (x ∷ []) n r p o e = absurd (cc)
-  module_by_named head.Module (x ∷ q ∷ []) n r p o e = absurd (cc)
-  module_by_named head.Module (x ∷ q ∷ m ∷ []) n r p o e = absurd (cc)
-  module_by_named head.Module (x ∷ q ∷ m ∷ t ∷ u ∷ ns) n r p o e = absurd (cc)
+  module_by_named head.Module [] n r p o e = absurd (not_given _ _ o e)
+  module_by_named head.Module (x ∷ []) n r p o e = absurd (not_given _ _ o e)
+  module_by_named head.Module (x ∷ q ∷ []) n r p o e = absurd (not_given _ _ o e)
+  module_by_named head.Module (x ∷ q ∷ m ∷ []) n r p o e = absurd (not_given _ _ o e)
+  module_by_named head.Module (x ∷ q ∷ m ∷ t ∷ u ∷ ns) n r p o e = absurd (not_given _ _ o e)
   module_by_named head.AscribedModule (x ∷ t ∷ qs ∷ ts ∷ []) n r p o e = ascribed_named x n t (parts_of qs) (parts_read qs r.1.1.0) (parts_of ts) (parts_read ts r.1.1.1.0) o e
-  module_by_named head.AscribedModule [] n r p o e = absurd (cc)
-  module_by_named head.AscribedModule (x ∷ []) n r p o e = absurd (cc)
-  module_by_named head.AscribedModule (x ∷ t ∷ []) n r p o e = absurd (cc)
-  module_by_named head.AscribedModule (x ∷ t ∷ q ∷ []) n r p o e = absurd (cc)
-  module_by_named head.AscribedModule (x ∷ t ∷ q ∷ u ∷ v ∷ ns) n r p o e = absurd (cc)
-  module_by_named _ ns n r p o e = absurd (cc)
+  module_by_named head.AscribedModule [] n r p o e = absurd (not_given _ _ o e)
+  module_by_named head.AscribedModule (x ∷ []) n r p o e = absurd (not_given _ _ o e)
+  module_by_named head.AscribedModule (x ∷ t ∷ []) n r p o e = absurd (not_given _ _ o e)
+  module_by_named head.AscribedModule (x ∷ t ∷ q ∷ []) n r p o e = absurd (not_given _ _ o e)
+  module_by_named head.AscribedModule (x ∷ t ∷ q ∷ u ∷ v ∷ ns) n r p o e = absurd (not_given _ _ o e)
+  module_by_named _ ns n r p o e = absurd (not_given _ _ o e)
 
   -- a module
   pub module_named : (t : Node) → IsReadTree t → (m : Module) → module_given ds t ≡ given m → IsNamedModule es m
