@@ -28,7 +28,7 @@ use Rattle.gb_elab_prog.specs.Contexts.{taken, nothing_bound}
 use Rattle.gb_elab_prog.specs.Sizes.{small}
 use Rattle.gb_elab_prog.specs.Operators.{of_body, of_one_type, parameters, all_parameters, written, body, defined, undefined, operator_entry}
 use Rattle.gb_elab_laws.specs.Fitting.{IsFormType, IsFormTypeIf, AreTypes, AreDeclared, IsFitting, of_no_module}
-use Rattle.gb_elab_laws.proofs.Given.{given_bind, given_is, if_refused}
+use Rattle.gb_elab_laws.proofs.Given.{given_bind, given_is, if_refused, not_given}
 use Rattle.gb_elab_laws.proofs.Measured.{measured, measured_form}
 use Rattle.gb_elab_laws.proofs.MoreNames.{none_named}
 use Rattle.gb_elab_laws.proofs.Parameters.{types_in, parameters_bound}
@@ -59,7 +59,7 @@ module _ (ds : scope.Declarations) (names : AreTypes ds) where
 
   group_measured : (b c : Bound) (k : Head) (ps : List Node) (p : Place) → parameters ds b k ps p ≡ given c → HasMeasured b → HasMeasured c
   group_measured b c head.Variables (xs ∷ t ∷ []) p e h = one_type_measured b c (parts_of xs) t e h
-  group_measured b c _ ps p e h = cc
+  group_measured b c _ ps p e h = absurd (not_given _ _ c e)
 
   all_measured : (b c : Bound) (gs : List Node) → all_parameters ds b gs ≡ given c → HasMeasured b → HasMeasured c
   unfolding all_parameters
@@ -149,12 +149,12 @@ undefined_typed ds names c ts (r ∷ []) p e h =
     let a = given_bind (all_given (map (type_of ds) ts)) _ e h in
     let b = given_bind (type_or_number ds r) _ e a.2 in
     subst (IsOperatorIn c) (given_is _ e b.2) (all_variable ds names ts a.0 a.1, measured ds names r b.0 b.1)
-undefined_typed ds names c ts [] p e h = cc
-undefined_typed ds names c ts (r ∷ s ∷ rs) p e h = cc
+undefined_typed ds names c ts [] p e h = absurd (not_given _ _ e h)
+undefined_typed ds names c ts (r ∷ s ∷ rs) p e h = absurd (not_given _ _ e h)
 
 pub operator_typed : (ds : scope.Declarations) (c : Context) → AreDeclared c.operator ds → (h : Head) (ps : List Node) (p : Place) (e : Entry) → operator_entry ds h ps p ≡ given e → IsOperatorIn c e
 operator_typed ds c names head.DefinedOperator (gs ∷ r ∷ t ∷ []) p e k = defined_typed ds c names (parts_of gs) (parts_of r) t e k
 operator_typed ds c names head.Constant (t ∷ []) p e k = defined_typed ds c names [] [] t e k
 operator_typed ds c names head.TypedConstant (r ∷ t ∷ []) p e k = defined_typed ds c names [] (r ∷ []) t e k
 operator_typed ds c names head.AbstractOperator ts p e k = undefined_typed ds names.types c (take (pred (length ts)) ts) (drop (pred (length ts)) ts) p e k
-operator_typed ds c names _ ps p e k = cc
+operator_typed ds c names _ ps p e k = absurd (not_given _ _ e k)

@@ -31,7 +31,7 @@ use Rattle.gb_elab_prog.specs.Fresh.{free}
 use Rattle.gb_elab_prog.specs.ModuleTypes.{module_type_at}
 use Rattle.gb_elab_laws.specs.Fitting.{AreTypes}
 use Rattle.gb_elab_laws.proofs.Declared.{declared_in}
-use Rattle.gb_elab_laws.proofs.Given.{given_bind, given_is, if_allowed, none_some, some_given}
+use Rattle.gb_elab_laws.proofs.Given.{given_bind, given_is, if_allowed, none_some, some_given, not_given}
 use Rattle.gb_elab_laws.proofs.Members.{free_is, unnamed}
 use Rattle.gb_elab_laws.proofs.ModuleNames.{no_module, some_module, type_known}
 use Rattle.gb_elab_laws.proofs.Scopes.{abstract_added}
@@ -135,7 +135,7 @@ module _ (ds : Declarations) (scoped : IsTypedScope (declared ds)) where
   bound_typed b c head.Values (x ∷ xs ∷ t ∷ []) p e h = values_typed b c x (parts_of xs) t e h
   bound_typed b c head.Memory (x ∷ []) p e h = memory_typed b c x e h
   bound_typed b c head.ModuleBind (x ∷ t ∷ ms ∷ qs ∷ []) p e h = module_typed b c x t (parts_of ms) (parts_of qs) e h
-  bound_typed b c _ ps p e h = cc
+  bound_typed b c _ ps p e h = absurd (not_given _ _ c e)
 
   pub all_typed : (b c : Bound) (xs : List Node) → all_bound ds b xs ≡ given c → IsBound ds b → IsBound ds c
   unfolding all_bound

@@ -67,7 +67,7 @@ use Rattle.gb_elab_laws.proofs.Transformings.{of_inlining, of_passing, of_placed
 use Rattle.gb_elab_laws.proofs.Turning.{of_while}
 use Rattle.gb_elab_laws.proofs.Shapes.{value_form}
 use Rattle.gb_elab_laws.proofs.EventLaws.{of_event_law, of_splitting}
-use Rattle.gb_elab_laws.proofs.Given.{given_bind, given_is, if_unbuilt}
+use Rattle.gb_elab_laws.proofs.Given.{given_bind, given_is, if_unbuilt, not_given}
 use Rattle.gb_elab_laws.proofs.Fits.{goal_fits}
 use Rattle.gb_elab_laws.proofs.Forms.{elaborated_typed}
 use Rattle.gb_amb.specs.Steps.{IsMemoryWitness, IsTypedStep, IsWitness}
@@ -355,7 +355,7 @@ module _ (ds : scope.Declarations) (scoped : IsTypedScope (declared ds)) (q : Se
   rule_forms text.SmtPattern x [] p k h = subst HasForms (given_is (rule.Smt []) k h) (λ lemmas alone. tt)
   rule_forms text.Swap x (b ∷ n ∷ d ∷ []) p k h = of_passing HasForms (λ a t. tt) (acts (parts_of b)) n (head_of d) (parts_of d) p k h
   rule_forms text.PositionStep x (b ∷ n ∷ []) p k h = of_placed HasForms (λ a t. tt) x (acts (parts_of b)) (position n) p k h
-  rule_forms _ x _ p k h = cc
+  rule_forms _ x _ p k h = absurd (not_given _ _ k h)
 
   step_forms : (n : Node) (s : Step) → step_given ds q n ≡ given s → HasForms s.rule
   unfolding step_given

@@ -35,7 +35,7 @@ use Rattle.gb_operators.specs.Kinds.{entries, inside_option, is_small, outcome}
 use Rattle.gb_operators.specs.Literals.{as_whole, holds, holds_layer, number, numeral}
 use Rattle.gb_operators.specs.Operators.{part_wanted}
 use Rattle.gb_elab_laws.specs.Fitting.{IsFormType, IsFormTypeIf, AreTypes, IsFitting, IsWanted, IsGiven}
-use Rattle.gb_elab_laws.proofs.Given.{given_bind, given_is, if_allowed, if_given, fits_is}
+use Rattle.gb_elab_laws.proofs.Given.{given_bind, given_is, if_allowed, if_given, fits_is, not_given}
 use Rattle.gb_elab_laws.proofs.Types.{spelled_typed}
 use Rattle.gb_elab_laws.proofs.Shapes.{made_of, finite_form, variable_with, drawn_form, entries_finite, some_finite}
 use Rattle.gb_elab_laws.proofs.Literals.{bits_literal}
@@ -114,8 +114,8 @@ module _ (globs : Name → Bool) (c : Context) (at : Environment) where
       let j = if_given (is_small t.0) d TypeTooLarge p u k.2 in
       subst (IsGiven globs c l w) j.1
       (given_from c l w (ty.Distr t.0) d (operators.uniform c l t.0 (variable_with globs t.0 (spelled_typed at.declared names s t.0 t.1))) (stands_is at w p (ty.Distr t.0) k.0 k.1))
-  uniform_typed names [] w p u e = cc
-  uniform_typed names (s ∷ x ∷ ts) w p u e = cc
+  uniform_typed names [] w p u e = absurd (not_given _ _ u e)
+  uniform_typed names (s ∷ x ∷ ts) w p u e = absurd (not_given _ _ u e)
 
   -- a constant of an enumeration
   pub literal_typed : (k : Constant) → IsVariableType k.ty × IsLiteral k.ty (Num k.number) → Typed globs c l k.ty (literal k)
@@ -127,7 +127,7 @@ module _ (globs : Name → Bool) (c : Context) (at : Environment) where
     constant_typed known.True w p f u e = wanted_given c l w p (truth_literal true) u (ty.Bool, truth_typed c at vs fit true) e
     constant_typed known.False w p f u e = wanted_given c l w p (truth_literal false) u (ty.Bool, truth_typed c at vs fit false) e
     constant_typed known.Unit w p f u e = wanted_given c l w p unit u (ty.Unit, unit_typed c at vs fit) e
-    constant_typed known.None None p f u e = cc
+    constant_typed known.None None p f u e = absurd (not_given _ _ u e)
     constant_typed known.None (Some t) p f u e =
         let k = if_given (is_some (inside_option t)) (applied op.None [] t) TypeMismatch p u e in
         let o = some_is (inside_option t) k.0 in
@@ -135,7 +135,7 @@ module _ (globs : Name → Bool) (c : Context) (at : Environment) where
         subst (IsGiven globs c l (Some t)) k.1
         (given_from c l (Some t) t (applied op.None [] t)
         (subst (λ z. Typed globs c l z (applied op.None [] z)) (sym same) (none c l o.0 (some_finite globs o.0 (subst (IsFormType globs) same f)))) refl)
-    constant_typed known.Empty None p f u e = cc
+    constant_typed known.Empty None p f u e = absurd (not_given _ _ u e)
     constant_typed known.Empty (Some t) p f u e =
         let k = if_given (is_some (entries t)) (applied op.Empty [] t) TypeMismatch p u e in
         let o = some_is (entries t) k.0 in
@@ -143,4 +143,4 @@ module _ (globs : Name → Bool) (c : Context) (at : Environment) where
         let n = entries_finite globs o.0.0 o.0.1 (subst (IsFormType globs) same f) in
         subst (IsGiven globs c l (Some t)) k.1
         (given_from c l (Some t) t (applied op.Empty [] t) (subst (λ z. Typed globs c l z (applied op.Empty [] z)) (sym same) (empty c l o.0.0 o.0.1 n.0 n.1)) refl)
-    constant_typed _ w p f u e = cc
+    constant_typed _ w p f u e = absurd (not_given _ _ u e)

@@ -49,7 +49,7 @@ use Rattle.gb_elab_laws.proofs.Conditions.{of_by}
 use Rattle.gb_elab_laws.proofs.Anew.{fits, params_stand, result_stands}
 use Rattle.gb_elab_laws.proofs.EventLaws.{of_splitting}
 use Rattle.gb_elab_laws.proofs.Forms.{elaborated_typed}
-use Rattle.gb_elab_laws.proofs.Given.{given_bind, given_is}
+use Rattle.gb_elab_laws.proofs.Given.{given_bind, given_is, not_given}
 use Rattle.gb_elab_laws.proofs.Judged.{condition as conditions}
 use Rattle.gb_elab_laws.proofs.Keeping.{of_entering, of_kept, of_until}
 use Rattle.gb_elab_laws.proofs.OneProcedure.{condition}
@@ -193,7 +193,7 @@ module _ (ds : scope.Declarations) (scoped : IsTypedScope (declared ds)) (q : Se
     call_typed a text.CallUpto (m ∷ n ∷ []) p k h = of_until ds q CallTyped tt (λ m n u e. tt) a m n k h
     call_typed a text.CallLemma (n ∷ []) p k h =
         let x = given_bind (used ds q n) (λ (f : Term). given (rule.CallKnown a f)) k h in subst CallTyped (given_is (rule.CallKnown a x.0) k x.2) tt
-    call_typed a _ _ p k h = cc
+    call_typed a _ _ p k h = absurd (not_given _ _ k h)
 
 -- The arguments of a typed step of a rule on calls are typed.
 pub call_step_typed : (ds : scope.Declarations) → IsTypedScope (declared ds) → (q : Sequent) (t : IsTypedSequent (context_of (declared ds)) q) → (n : Node) (s : Step) → step_given ds q n ≡ given s →

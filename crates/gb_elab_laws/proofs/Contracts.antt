@@ -27,7 +27,7 @@ use Rattle.gb_names.specs.Environment.{relational, unary}
 use Rattle.gb_elab.specs.Forms.{elaborated}
 use Rattle.gb_elab_mod.specs.OnPrograms.{call_rule, calls_by, contract_at, contract_of, contract_of_both, contract_on, last_procedure, params_if, result_if}
 use Rattle.gb_elab_mod.specs.Uses.{used}
-use Rattle.gb_elab_laws.proofs.Given.{given_bind, given_is}
+use Rattle.gb_elab_laws.proofs.Given.{given_bind, given_is, not_given}
 use Rattle.gb_elab_laws.proofs.Keeping.{IsKept, IsUntil, of_kept, of_until}
 
 -- It is a step of `call`, by what is said, by what is known or by what oracles keep, or one that fits no goal.
@@ -71,4 +71,4 @@ module _ (ds : Declarations) (q : Sequent) (P : Rule → Type 0) (called : (s : 
   of_call a text.CallUpto (m ∷ n ∷ []) p k h = of_until ds q P unfit until a m n k h
   of_call a text.CallLemma (n ∷ []) p k h =
       let x = given_bind (used ds q n) (λ (f : Term). given (rule.CallKnown a f)) k h in subst P (given_is (rule.CallKnown a x.0) k x.2) (known a n x.0 x.1)
-  of_call a _ _ p k h = cc
+  of_call a _ _ p k h = absurd (not_given _ _ k h)

@@ -59,7 +59,7 @@ use Rattle.gb_elab_laws.proofs.Keeping.{of_entering}
 use Rattle.gb_elab_laws.proofs.Conditions.{of_by}
 use Rattle.gb_elab_laws.proofs.Transformings.{of_inlining, of_passing, of_placed}
 use Rattle.gb_elab_laws.proofs.EventLaws.{of_event_law, of_splitting}
-use Rattle.gb_elab_laws.proofs.Given.{given_bind, given_is}
+use Rattle.gb_elab_laws.proofs.Given.{given_bind, given_is, not_given}
 use Rattle.gb_elab_laws.proofs.Ends.{AreOfTheirTypes, occurring_in}
 use Rattle.gb_elab_laws.proofs.Fits.{goal_fits, one_fits, two_fit}
 use Rattle.gb_elab_laws.proofs.Forms.{elaborated_typed}
@@ -302,7 +302,7 @@ module _ (ds : scope.Declarations) (scoped : IsTypedScope (declared ds)) (q : Se
     of_rule text.SmtPattern x [] p k h = subst TypedAt (given_is (rule.Smt []) k h) tt
     of_rule text.Swap x (b ∷ n ∷ d ∷ []) p k h = of_passing TypedAt (λ a t. tt) (acts (parts_of b)) n (head_of d) (parts_of d) p k h
     of_rule text.PositionStep x (b ∷ n ∷ []) p k h = of_placed TypedAt (λ a t. tt) x (acts (parts_of b)) (position n) p k h
-    of_rule _ x _ p k h = cc
+    of_rule _ x _ p k h = absurd (not_given _ _ k h)
 
 -- The arguments of a typed step of a rule on programs are typed.
 pub body_typed : (ds : scope.Declarations) → IsTypedScope (declared ds) → (q : Sequent) (t : IsTypedSequent (context_of (declared ds)) q) → (n : Node) (s : Step) → step_given ds q n ≡ given s →

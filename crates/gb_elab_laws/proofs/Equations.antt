@@ -23,7 +23,7 @@ use Rattle.gb_elab.specs.Equalities.{equalities, equality, equation, equation_of
 use Rattle.gb_names.specs.Names.{has_memories, path, sided}
 use Rattle.gb_typing.specs.Context.{Context}
 use Rattle.gb_elab_laws.specs.Fitting.{reads_globals, IsFitting, IsGiven}
-use Rattle.gb_elab_laws.proofs.Given.{given_bind, given_is, if_given, if_refused, out_type}
+use Rattle.gb_elab_laws.proofs.Given.{given_bind, given_is, if_given, if_refused, out_type, not_given}
 use Rattle.gb_elab_laws.proofs.Types.{no_distribution}
 use Rattle.gb_elab_laws.proofs.Typed.{Typed, combined, truth_given}
 use Rattle.gb_elab_laws.proofs.Leaves.{HasMemory, IsVariable, sided_typed, truth_typed}
@@ -48,7 +48,7 @@ module _ {globs : Name → Bool} (c : Context) (at : Environment) (vs : List Bin
     equation_typed head.Name x xs p u h = equality_typed x p u h
     equation_typed head.Path x xs p u h = equality_typed (path xs) p u h
     equation_typed head.EquatedGlob x (m ∷ []) p u h = same_globals_typed c at vs fit may both m u h
-    equation_typed _ x _ p u h = cc
+    equation_typed _ x _ p u h = absurd (not_given _ _ u h)
 
     abbrev each_typed : (x : Node) (u : Term) → equation_of at vs x ≡ given u → Typed globs c at.language ty.Bool u
     each_typed x = equation_typed (head_of x) (text_of x) (parts_of x) (place_of x)

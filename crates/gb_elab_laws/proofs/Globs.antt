@@ -176,7 +176,7 @@ module _ {globs : Name → Bool} (c : Context) (at : Environment) (vs : List Bin
   read_typed head.Name x xs p s u h = beside_typed c at vs fit (head_of s) s x p u h
   read_typed head.Path x xs p s u h = beside_typed c at vs fit (head_of s) s (path xs) p u h
   read_typed head.Glob x xs p s u h = whole_alone_typed (bare_glob xs (Some s) p) p u h
-  read_typed _ x xs p s u h = cc
+  read_typed _ x xs p s u h = absurd (not_given _ _ u h)
 
   of_both_typed : has_memories at.language ≡ true → (l r : Mexp × Side) → Has l.1 → Has r.1 → (p q t : Place) (b : Bool) (u : Term) →
       (if b then agreement at.declared l.0 l.1 r.1 p else two_owners at.declared l r q t) ≡ given u → IsTruth u

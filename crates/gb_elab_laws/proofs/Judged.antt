@@ -32,7 +32,7 @@ use Rattle.gb_typing.specs.Typing.{IsFrame, IsThere}
 use Rattle.gb_typing.specs.Typing as typed
 use Rattle.gb_typing.proofs.Made.{made_node}
 use Rattle.gb_elab_laws.specs.Fitting.{reads_globals, AreIn, IsTypeOf, IsFitting, IsGiven}
-use Rattle.gb_elab_laws.proofs.Given.{given_bind, given_is, some_given}
+use Rattle.gb_elab_laws.proofs.Given.{given_bind, given_is, some_given, not_given}
 use Rattle.gb_elab_laws.proofs.Quantified.{variables_with}
 use Rattle.gb_elab_laws.proofs.Shapes.{variable_with}
 use Rattle.gb_elab_laws.proofs.Remembered.{remembering}
@@ -48,7 +48,7 @@ judging Operator h = cc
 
 none_lacking : (qs : List Param) (p : Place) (y : Unit {0}) → lacks_none qs p ≡ given y → qs ≡ []
 none_lacking [] p y h = refl
-none_lacking (q ∷ qs) p y h = cc
+none_lacking (q ∷ qs) p y h = absurd (not_given _ _ y h)
 
 -- a procedure that is named is known where it stands, and is of this type
 abbrev pub IsKnownAs : Environment → Named → Type 0
@@ -85,27 +85,27 @@ module _ (at : Environment) (bound : List Binding) where
 
   with_arguments_is : (x : Node) (xs ps : List Node) (p : Place) (n : Named) → of_functor at bound x xs ps p ≡ given n → IsRight n
   with_arguments_is x xs (ms ∷ f ∷ []) p n h = functor_is x xs (parts_of ms) f p n h
-  with_arguments_is x xs _ p n h = cc
+  with_arguments_is x xs _ p n h = absurd (not_given _ _ n h)
 
   by_parts_is : (k : Head) (x : Node) (ps : List Node) (p : Place) (n : Named) → procedure_by at bound k x ps p ≡ given n → IsRight n
   by_parts_is head.ProcedurePath x (y ∷ ys) p n h = procedure_is (procedure_path (text_of x) y ys) [] tt p n h
   by_parts_is head.FunctorPath x ps p n h = with_arguments_is x (take (length ps - 2) ps) (drop (length ps - 2) ps) p n h
-  by_parts_is _ x ps p n h = cc
+  by_parts_is _ x ps p n h = absurd (not_given _ _ n h)
 
   -- the procedure that a judgment names
   pub named_is : (k : Head) (xs : List Node) (p : Place) (n : Named) → named_procedure at bound k xs p ≡ given n → IsKnownAs at n
   named_is k (x ∷ ps) p n h = by_parts_is k x ps p n h
-  named_is k [] p n h = cc
+  named_is k [] p n h = absurd (not_given _ _ n h)
 
   -- the one that a call names
   pub callee_is : (k : Head) (x : Node) (ps : List Node) (p : Place) (n : Named) → procedure_called at bound k x ps p ≡ given n → IsKnownAs at n
   callee_is head.Call x ps p n h = by_parts_is head.ProcedurePath x (in_front ps) p n h
   callee_is head.FunctorCall x ps p n h = by_parts_is head.FunctorPath x (in_front ps) p n h
-  callee_is _ x ps p n h = cc
+  callee_is _ x ps p n h = absurd (not_given _ _ n h)
 
   pub called_is : (k : Head) (ps : List Node) (p : Place) (n : Named) → called at bound k ps p ≡ given n → IsKnownAs at n
   called_is k (x ∷ ps) p n h = callee_is k x ps p n h
-  called_is k [] p n h = cc
+  called_is k [] p n h = absurd (not_given _ _ n h)
 
   -- the procedures that a judgment is about
   pub both_are : (f g : Node) (p : Place) (n : Named × Named) → both_procedures at bound f g p ≡ given n → IsKnownAs at n.0 × IsKnownAs at n.1

@@ -16,7 +16,7 @@ use Rattle.gb_steps.specs.declared.step.Rule.TheVariants as rule
 use Rattle.gb_steps.specs.declared.step.Until.{Until}
 use Rattle.gb_script.specs.declared.tree.Node.{Node}
 use Rattle.gb_elab_mod.specs.OnPrograms.{calls_until, entering_rule, kept_of, kept_on, on_all, procedures_by, until_of, until_on}
-use Rattle.gb_elab_laws.proofs.Given.{given_bind, given_is}
+use Rattle.gb_elab_laws.proofs.Given.{given_bind, given_is, not_given}
 
 module _ (ds : Declarations) (q : Sequent) where
   -- what a step says that oracles keep
@@ -57,4 +57,4 @@ module _ (ds : Declarations) (q : Sequent) where
         (a : Acts) (ns : List Node) (p : Place) (k : Rule) → entering_rule ds q a ns p ≡ given k → P k
     of_entering plain kept unfit a [] p k h = subst P (given_is (rule.OnBodies (on_all a on_bodies.Proc)) k h) (plain a)
     of_entering plain kept unfit a (n ∷ []) p k h = of_kept procedures_by unfit kept a n k h
-    of_entering plain kept unfit a (m ∷ n ∷ ns) p k h = cc
+    of_entering plain kept unfit a (m ∷ n ∷ ns) p k h = absurd (not_given _ _ k h)

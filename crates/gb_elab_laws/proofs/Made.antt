@@ -14,7 +14,7 @@ use Rattle.gb_elab_prog.specs.Modules.{all_short, ascribed, empty_module, module
 use Rattle.gb_elab_prog.specs.Stated.{Stated, meets_stated, stated}
 use Rattle.gb_elab_prog.specs.declared.stated.Where.{Where}
 use Rattle.gb_elab_prog.specs.declared.stated.Where.TheVariants.{Front, Behind}
-use Rattle.gb_elab_laws.proofs.Given.{given_bind, given_is}
+use Rattle.gb_elab_laws.proofs.Given.{given_bind, given_is, not_given}
 
 -- the members of a text make this module of one that has none
 abbrev pub Makes : Declarations → Module → List Node → Module → Type 0
@@ -58,7 +58,7 @@ ascribed_made ds x t qs ts m h =
 made_by : (ds : Declarations) (k : Head) (xs : List Node) (p : Place) (m : Module) → module_by ds k xs p ≡ given m → IsMade ds m
 made_by ds head.Module (x ∷ qs ∷ ys ∷ ts ∷ []) p m h = plain_made ds x (parts_of qs) (parts_of ys) (parts_of ts) m h
 made_by ds head.AscribedModule (x ∷ t ∷ qs ∷ ts ∷ []) p m h = ascribed_made ds x t (parts_of qs) (parts_of ts) m h
-made_by ds _ _ p m h = cc
+made_by ds _ _ p m h = absurd (not_given _ _ m h)
 
 pub module_made : (ds : Declarations) (t : Node) (m : Module) → module_given ds t ≡ given m → IsMade ds m
 module_made ds t m h = made_by ds (head_of t) (parts_of t) (place_of t) m h

@@ -35,7 +35,7 @@ use Rattle.gb_elab_prog.specs.Types.{constants, enumeration, enumeration_type, n
 use Rattle.gb_elab_mod.specs.Lemmas.{claimed, lemma_name, name_in, stated, statement_by, statement_given}
 use Rattle.gb_print.specs.Blank.{IsUnblank, begins_blank}
 use Rattle.gb_arguments.specs.Unblank.{AreUnblank}
-use Rattle.gb_elab_laws.proofs.Given.{given_bind, given_is}
+use Rattle.gb_elab_laws.proofs.Given.{given_bind, given_is, not_given}
 use Rattle.gb_elab_laws.proofs.Members.{members_front}
 
 -- Nodes.
@@ -72,7 +72,7 @@ constants_unblank ds t i added all (x ∷ xs) u h e =
 
 without_is : (xs : List Node) (added all : Declarations) → without xs added ≡ given all → added ≡ all
 without_is [] added all e = given_is added all e
-without_is (x ∷ xs) added all e = cc
+without_is (x ∷ xs) added all e = absurd (not_given _ _ all e)
 
 enumeration_unblank : (ds : Declarations) (x : Node) (cs rs : List Node) (all : Declarations) → IsUnblank x → EachOf IsUnblank cs → enumeration ds x cs rs ≡ given all → AreUnblank all
 enumeration_unblank ds x cs rs all v u e =
@@ -85,7 +85,7 @@ types_unblank ds x head.AbstractType ps p all v u e = subst AreUnblank (given_is
 types_unblank ds x head.TypeAlias (t ∷ []) p all v u e =
     let a = given_bind (type_of ds t) _ all e in subst AreUnblank (given_is (only x (entry.Type a.0)) all a.2) (v, tt)
 types_unblank ds x head.Enumeration (c ∷ cs) p all v u e = enumeration_unblank ds x (take 256 (c ∷ cs)) (drop 256 (c ∷ cs)) all v (taken_nodes 256 (c ∷ cs) u) e
-types_unblank ds x _ ps p all v u e = cc
+types_unblank ds x _ ps p all v u e = absurd (not_given _ _ all e)
 
 operators_unblank : (ds : Declarations) (x d : Node) (all : Declarations) → IsUnblank x → operator_entries ds x d ≡ given all → AreUnblank all
 operators_unblank ds x d all v e =
@@ -106,7 +106,7 @@ by_head ds head.TypeDeclaration (x ∷ d ∷ []) p all u e =
     let a = given_bind (free ds x) _ all e in types_unblank ds x (head_of d) (parts_of d) (place_of d) all (here (first u)) (parts (first (rest u))) a.2
 by_head ds head.OperatorDeclaration (x ∷ d ∷ []) p all u e = operators_unblank ds x d all (here (first u)) e
 by_head ds head.ModuleType (x ∷ qs ∷ ss ∷ []) p all u e = module_types_unblank ds x (parts_of qs) (parts_of ss) all (here (first u)) e
-by_head ds _ _ p all u e = cc
+by_head ds _ _ p all u e = absurd (not_given _ _ all e)
 
 pub entries_unblank : (ds : Declarations) (t : Node) (added : Declarations) → Each IsUnblank t → entries_given ds t ≡ given added → AreUnblank added
 entries_unblank ds t added u e = by_head ds (head_of t) (parts_of t) (place_of t) added (parts u) e
@@ -118,7 +118,7 @@ parameter_same ds m n head.ModuleParameter (x ∷ t ∷ []) p e =
     let a = given_bind (parameter_name ds (Some m.name) m.params x) _ n e in
     let b = given_bind (module_type_at ds t) _ n a.2 in
     ap (λ z. z.name) (given_is _ n b.2)
-parameter_same ds m n _ ps p e = cc
+parameter_same ds m n _ ps p e = absurd (not_given _ _ n e)
 
 parameters_same : (ds : Declarations) (m n : Module) (ts : List Node) → with_parameters ds m ts ≡ given n → m.name ≡ n.name
 parameters_same ds m n [] e = ap (λ z. z.name) (given_is m n e)
@@ -153,7 +153,7 @@ ascribed_same ds x t qs ts m e =
 module_by_head : (ds : Declarations) (h : Head) (ps : List Node) (p : Place) (m : Module) → EachOf IsUnblank ps → module_by ds h ps p ≡ given m → begins_blank m.name ≡ false
 module_by_head ds head.Module (x ∷ qs ∷ u ∷ ts ∷ []) p m v e = ap begins_blank (sym (plain_same ds x (parts_of qs) (parts_of u) (parts_of ts) m e)) ∙ here (first v)
 module_by_head ds head.AscribedModule (x ∷ t ∷ qs ∷ ts ∷ []) p m v e = ap begins_blank (sym (ascribed_same ds x t (parts_of qs) (parts_of ts) m e)) ∙ here (first v)
-module_by_head ds _ _ p m v e = cc
+module_by_head ds _ _ p m v e = absurd (not_given _ _ m e)
 
 pub module_unblank : (ds : Declarations) (t : Node) (m : Module) → Each IsUnblank t → module_given ds t ≡ given m → begins_blank m.name ≡ false
 module_unblank ds t m u e = module_by_head ds (head_of t) (parts_of t) (place_of t) m (parts u) e
@@ -193,7 +193,7 @@ binder_unblank ds b c head.Values (x ∷ xs ∷ t ∷ []) p v u e =
 binder_unblank ds b c head.Memory (x ∷ []) p v u e =
     let k = given_bind (taken b.names (x ∷ [])) _ c e in subst Bound_unblank (given_is _ c k.2) u
 binder_unblank ds b c head.ModuleBind (x ∷ t ∷ ms ∷ qs ∷ []) p v u e = module_binder ds b c x t (parts_of ms) (parts_of qs) (here (first v)) u e
-binder_unblank ds b c _ ps p v u e = cc
+binder_unblank ds b c _ ps p v u e = absurd (not_given _ _ c e)
 
 binders_unblank : (ds : Declarations) (b c : Bound) (xs : List Node) → EachOf IsUnblank xs → Bound_unblank b → all_bound ds b xs ≡ given c → Bound_unblank c
 unfolding all_bound
@@ -218,7 +218,7 @@ stated_unblank ds x bs t q u e =
 
 statement_by_head : (ds : Declarations) (h : Head) (ps : List Node) (p : Place) (q : Sequent) → EachOf IsUnblank ps → statement_by ds h ps p ≡ given q → AreUnblank (binder_entries q.modules)
 statement_by_head ds head.Lemma (x ∷ bs ∷ t ∷ []) p q u e = stated_unblank ds x (parts_of bs) t q (parts (first (rest u))) e
-statement_by_head ds _ _ p q u e = cc
+statement_by_head ds _ _ p q u e = absurd (not_given _ _ q e)
 
 pub statement_unblank : (ds : Declarations) (t : Node) (q : Sequent) → Each IsUnblank t → statement_given ds t ≡ given q → AreUnblank (binder_entries q.modules)
 statement_unblank ds t q u e = statement_by_head ds (head_of t) (parts_of t) (place_of t) q (parts u) e

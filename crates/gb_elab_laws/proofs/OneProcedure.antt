@@ -26,7 +26,7 @@ use Rattle.gb_typing.specs.Context.{Frame, Context, procedure, with_own}
 use Rattle.gb_typing.specs.Typing.{IsThere, before, after}
 use Rattle.gb_typing.proofs.Made.{made_node}
 use Rattle.gb_elab_laws.specs.Fitting.{AreIn, IsTypeOf, IsFitting, IsGiven}
-use Rattle.gb_elab_laws.proofs.Given.{given_bind, given_is}
+use Rattle.gb_elab_laws.proofs.Given.{given_bind, given_is, not_given}
 use Rattle.gb_elab_laws.proofs.Judged.{judging, known_there, one_is, params_in, result_in}
 use Rattle.gb_elab_laws.proofs.Leaves.{truth_typed}
 use Rattle.gb_elab_laws.proofs.Remembered.{remembering}
@@ -136,4 +136,4 @@ module _ {globs : Name → Bool} (c : Context) (at : Environment) (vs : List Bin
   lossless_typed (f ∷ []) p u h =
       let m = given_bind (one_procedure at vs f p) (λ m. given (ends m.0)) u h in
       subst (Typed globs c at.language ty.Bool) {x = ends m.0.0} (given_is (ends m.0.0) u m.2) (ends_typed m.0.0 m.0.1 (one_is at vs f p m.0 m.1))
-  lossless_typed _ p u h = cc
+  lossless_typed _ p u h = absurd (not_given _ _ u h)

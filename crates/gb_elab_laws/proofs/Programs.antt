@@ -32,7 +32,7 @@ use Rattle.gb_typing.specs.Programs.{HaveVariableTypes, IsProcedure, type_of_pro
 use Rattle.gb_typing.specs.Scopes.{procedure_types}
 use Rattle.gb_meaning.specs.Modules.{found as named}
 use Rattle.gb_elab_laws.specs.Fitting.{AreTypes, IsGiven, of_no_module}
-use Rattle.gb_elab_laws.proofs.Given.{given_bind, given_is, if_refused}
+use Rattle.gb_elab_laws.proofs.Given.{given_bind, given_is, if_refused, not_given}
 use Rattle.gb_elab_laws.proofs.Types.{spelled_typed}
 use Rattle.gb_typing.proofs.Globals.{name_test, or_false}
 use Rattle.gb_elab_laws.proofs.Typed.{given_from}
@@ -67,7 +67,7 @@ module _ (ds : Declarations) (names : AreTypes ds) where
       let o = given_bind (undeclared vs x) _ ws e in
       let u = given_bind (spelled_as.type_of ds t) (λ u. given (vs ++ record { name = text_of x; ty = u } ∷ [])) ws o.2 in
       subst HaveVariableTypes (given_is (vs ++ record { name = text_of x; ty = u.0 } ∷ []) ws u.2) (have_both vs (record { name = text_of x; ty = u.0 } ∷ []) h (spelled_typed ds names t u.0 u.1, tt))
-  formal_typed vs _ _ p ws h e = cc
+  formal_typed vs _ _ p ws h e = absurd (not_given _ _ ws e)
 
   -- the parameters of a procedure have types of variables
   pub formals_typed : (vs : List TypedName) (fs : List Node) (ws : List TypedName) → HaveVariableTypes vs → formals ds vs fs ≡ given ws → HaveVariableTypes ws
@@ -88,7 +88,7 @@ module _ (ds : Declarations) (names : AreTypes ds) (ps : List TypedName) where
   variables_typed : (vs : List TypedName) (k : Head) (xs : List Node) (p : Place) (ws : List TypedName) → HaveVariableTypes vs → variables ds ps vs k xs p ≡ given ws → HaveVariableTypes ws
   variables_typed vs head.Variables (xs ∷ t ∷ []) p ws h e =
       let u = given_bind (spelled_as.type_of ds t) (declared ps vs (parts_of xs)) ws e in declared_typed vs (parts_of xs) u.0 ws h (spelled_typed ds names t u.0 u.1) u.2
-  variables_typed vs _ _ p ws h e = cc
+  variables_typed vs _ _ p ws h e = absurd (not_given _ _ ws e)
 
   -- the locals of a procedure have types of variables
   locals_typed : (vs : List TypedName) (bs : List Node) (ws : List TypedName) → HaveVariableTypes vs → locals ds ps vs bs ≡ given ws → HaveVariableTypes ws
@@ -168,4 +168,4 @@ module _ (ds : Declarations) (c : Context) (m : Module) (beside : IsAround ds c 
       let u = if_refused (is_member m (text_of x)) (DoubleName (text_of x)) (place_of x) (given tt) n.0 n.1 in
       let o = or_false (list_any (λ (l : TypedName). bytes_eq l.name (text_of x)) m.globals) (list_any (λ (q : Proc). bytes_eq q.name (text_of x)) m.procs) u.0 in
       (ap (named (procedure_types m.procs)) w.0 ∙ free_name m.procs (text_of x) o.1, w.1, w.2)
-  procedure_typed _ _ q p h = cc
+  procedure_typed _ _ q p h = absurd (not_given _ _ p h)

@@ -34,7 +34,7 @@ use Rattle.gb_typing.specs.Typing.{IsFrame}
 use Rattle.gb_typing.specs.Programs.{HaveVariableTypes}
 use Rattle.gb_terms.specs.declared.op.Side.TheVariants as side
 use Rattle.gb_elab_laws.specs.Fitting.{reads_globals, AllFiniteIn, AreTypes, IsBoundTo, IsBoundName, AreReadable, IsFitting}
-use Rattle.gb_elab_laws.proofs.Given.{given_bind, given_is, if_allowed}
+use Rattle.gb_elab_laws.proofs.Given.{given_bind, given_is, if_allowed, not_given}
 use Rattle.gb_elab_laws.proofs.Types.{no_distribution, spelled_typed}
 use Rattle.gb_elab_laws.proofs.Shapes.{with_globs, variable_with, finite_form}
 use Rattle.gb_elab_laws.proofs.Typed.{Typed}
@@ -84,8 +84,8 @@ module _ (at : Environment) (names : AreTypes at.declared) where
       subst (AllMayBeBound at.language) (given_is (values (x ∷ parts_of xs) u.0) vs u.2)
       (values_may at.language (x ∷ parts_of xs) u.0 (spelled_typed at.declared names t u.0 u.1))
   bind_may ws head.Memory (x ∷ []) p vs h = memory_may ws x p vs h
-  bind_may ws head.ModuleBind (x ∷ xs) p vs h = cc
-  bind_may ws _ _ p vs h = cc
+  bind_may ws head.ModuleBind (x ∷ xs) p vs h = absurd (not_given _ _ vs h)
+  bind_may ws _ _ p vs h = absurd (not_given _ _ vs h)
 
   pub binders_may : (vs : List Binding) (bs : List Node) (ws : List Binding) → AllMayBeBound at.language vs → bound_by at vs bs ≡ given ws → AllMayBeBound at.language ws
   unfolding bound_by

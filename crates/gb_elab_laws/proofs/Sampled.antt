@@ -70,7 +70,7 @@ use Rattle.gb_elab_laws.proofs.Conditions.{of_by}
 use Rattle.gb_elab_laws.proofs.Transformings.{of_inlining, of_passing, of_placed}
 use Rattle.gb_elab_laws.proofs.Turning.{of_while}
 use Rattle.gb_elab_laws.proofs.EventLaws.{of_event_law, of_splitting}
-use Rattle.gb_elab_laws.proofs.Given.{given_bind, given_is, if_given}
+use Rattle.gb_elab_laws.proofs.Given.{given_bind, given_is, if_given, not_given}
 use Rattle.gb_elab_laws.proofs.Ends.{AreOfTheirTypes, ends_agree, last_finite, occurring_in}
 use Rattle.gb_elab_laws.proofs.Fits.{function_fits, goal_fits}
 use Rattle.gb_elab_laws.proofs.Shapes.{finite_each, value_form}
@@ -336,7 +336,7 @@ module _ (ds : scope.Declarations) (scoped : IsTypedScope (declared ds)) (q : Se
       of_rule text.SmtPattern x [] p k h = other (rule.Smt []) k refl (given_is (rule.Smt []) k h)
       of_rule text.Swap x (b ∷ n ∷ d ∷ []) p k h = of_passing Asked (λ a t. tt) (acts (parts_of b)) n (head_of d) (parts_of d) p k h
       of_rule text.PositionStep x (b ∷ n ∷ []) p k h = of_placed Asked (λ a t. tt) x (acts (parts_of b)) (position n) p k h
-      of_rule _ x _ p k h = cc
+      of_rule _ x _ p k h = absurd (not_given _ _ k h)
 
 -- The arguments of a typed step are typed.
 pub rule_typed : (ds : scope.Declarations) → IsTypedScope (declared ds) → (q : Sequent) (t : IsTypedSequent (context_of (declared ds)) q) → (n : Node) (s : Step) → step_given ds q n ≡ given s →

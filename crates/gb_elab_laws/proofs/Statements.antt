@@ -38,7 +38,7 @@ use Rattle.gb_elab_prog.specs.Sizes.{small}
 use Rattle.gb_elab_prog.specs.declared.context.Bound.{Bound}
 use Rattle.gb_elab_prog.specs.Contexts.{all_bound, around, in_context, nothing_bound}
 use Rattle.gb_elab_prog.specs.Contexts.{context_of as bound_context}
-use Rattle.gb_elab_laws.proofs.Given.{given_bind, given_is, if_refused}
+use Rattle.gb_elab_laws.proofs.Given.{given_bind, given_is, if_refused, not_given}
 use Rattle.gb_elab_laws.specs.Fitting.{Allows, MayStand, IsGiven, of_each_module}
 use Rattle.gb_arguments.specs.Arguments.{names_of}
 use Rattle.gb_elab_laws.specs.Procedures.{IsOfProcedures}
@@ -144,7 +144,7 @@ stated_typed ds x bs t q h =
 
 of_parts : (ds : Declarations) (h : Head) (xs : List Node) (p : Place) (q : Sequent) → statement_by ds h xs p ≡ given q → IsStated ds (name_in xs) q
 of_parts ds head.Lemma (x ∷ bs ∷ t ∷ []) p q h = stated_typed ds x (parts_of bs) t q h
-of_parts ds _ _ p q h = cc
+of_parts ds _ _ p q h = absurd (not_given _ _ q h)
 
 pub statement_is : (ds : Declarations) (t : Node) (q : Sequent) → statement_given ds t ≡ given q → IsStated ds (lemma_name t) q
 statement_is ds t q h = of_parts ds (head_of t) (parts_of t) (place_of t) q h

@@ -34,7 +34,7 @@ use Rattle.gb_elab_mod.specs.Uses.{all_hinted, defined_operator, hypothesis, use
 use Rattle.gb_elab_prog.specs.Unbuilt.{absent}
 use Rattle.gb_elab_laws.proofs.Betweens.{of_transitive}
 use Rattle.gb_elab_laws.proofs.EventLaws.{BringsNone, of_event_law}
-use Rattle.gb_elab_laws.proofs.Given.{given_bind, given_is}
+use Rattle.gb_elab_laws.proofs.Given.{given_bind, given_is, not_given}
 use Rattle.gb_elab_laws.proofs.Transformings.{of_inlining, of_passing, of_placed}
 use Rattle.gb_elab_laws.proofs.Turning.{of_while}
 
@@ -156,7 +156,7 @@ module _ (ds : Declarations) (q : Sequent) (P : Rule → Type 0) (others : (k : 
   of_rule text.SmtPattern x [] p k h = other (rule.Smt []) k tt h
   of_rule text.Swap x (b ∷ n ∷ d ∷ []) p k h = of_passing P (λ a t. others (rule.Transform a t) tt) (acts (parts_of b)) n (head_of d) (parts_of d) p k h
   of_rule text.PositionStep x (b ∷ n ∷ []) p k h = of_placed P (λ a t. others (rule.Transform a t) tt) x (acts (parts_of b)) (position n) p k h
-  of_rule _ x _ p k h = cc
+  of_rule _ x _ p k h = absurd (not_given _ _ k h)
 
   -- a step by its parts
   pub of_step : (n : Node) (s : Step) → step_given ds q n ≡ given s → P s.rule

@@ -22,7 +22,7 @@ use Rattle.gb_typing.proofs.Globals.{name_test, or_false}
 use Rattle.gb_elab_prog.specs.Bound.{apart, is_module, is_own, parameter_name}
 use Rattle.gb_elab_prog.specs.ModuleTypes.{module_type_at, param}
 use Rattle.gb_elab_prog.specs.Modules.{empty_module, with_parameter, with_parameters}
-use Rattle.gb_elab_laws.proofs.Given.{given_bind, given_is, if_refused, some_given}
+use Rattle.gb_elab_laws.proofs.Given.{given_bind, given_is, if_refused, some_given, not_given}
 use Rattle.gb_elab_laws.proofs.ModuleNames.{no_module, type_known}
 
 -- the modules, and those of parameters
@@ -58,7 +58,7 @@ module _ (ds : Declarations) (n : Name) where
       let o = given_bind (parameter_name ds (Some k.name) k.params x) _ l e in
       let u = given_bind (module_type_at ds t) (λ (u : ModuleType). given (record k { params = k.params ++ param x t ∷ [] })) l o.2 in
       subst (IsBare n) (given_is (record k { params = k.params ++ param x t ∷ [] }) l u.2) (record { name = w.name; globals = w.globals; procs = w.procs })
-  parameter_bare k l _ _ p w e = cc
+  parameter_bare k l _ _ p w e = absurd (not_given _ _ l e)
 
   -- parameters are no members
   pub parameters_bare : (k l : Module) (qs : List Node) → IsBare n k → with_parameters ds k qs ≡ given l → IsBare n l
@@ -100,7 +100,7 @@ module _ (ds : Declarations) (scoped : IsTypedScope (declared ds)) (n : Name) (i
         name,
         taken_behind around k.params (param x t) w (subst IsKnown (sym there) tt, still_free around k.params y unknown own.1),
       )
-  parameter_taken k l _ _ p name w e = cc
+  parameter_taken k l _ _ p name w e = absurd (not_given _ _ l e)
 
   pub parameters_taken : (k l : Module) (qs : List Node) → k.name ≡ n → AreTaken around k.params → with_parameters ds k qs ≡ given l → AreTaken around l.params
   parameters_taken k l [] name w e = subst (λ (z : Module). AreTaken around z.params) (given_is k l e) w

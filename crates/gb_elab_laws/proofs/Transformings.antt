@@ -16,13 +16,13 @@ use Rattle.gb_steps.specs.declared.step.Transformation.{Transformation}
 use Rattle.gb_steps.specs.declared.step.Transformation.TheVariants as transformation
 use Rattle.gb_steps.specs.declared.step.Calls.{Calls}
 use Rattle.gb_elab_mod.specs.Steps.{calls_of, inlining_rule, passing, passing_rule, placed_rule}
-use Rattle.gb_elab_laws.proofs.Given.{given_bind, given_is}
+use Rattle.gb_elab_laws.proofs.Given.{given_bind, given_is, not_given}
 
 module _ (P : Rule → Type 0) (all : (a : Acts) (t : Transformation) → P (rule.Transform a t)) where
   pub of_passing : (a : Acts) (n : Node) (way : Kind) (ds : List Node) (p : Place) (k : Rule) → passing_rule a n way ds p ≡ given k → P k
   of_passing a n text.Forward (d ∷ []) p k h = subst P (given_is (passing n d false a) k h) (all a _)
   of_passing a n text.Backward (d ∷ []) p k h = subst P (given_is (passing n d true a) k h) (all a _)
-  of_passing a n _ _ p k h = cc
+  of_passing a n _ _ p k h = absurd (not_given _ _ k h)
 
   pub of_placed : (x : List ℕ) (a : Acts) (i : ℕ) (p : Place) (k : Rule) → placed_rule x a i p ≡ given k → P k
   of_placed x a i p k h = by_name (bytes_eq x (codes "rcondt")) (bytes_eq x (codes "rcondf")) (bytes_eq x (codes "unroll")) (bytes_eq x (codes "kill")) h

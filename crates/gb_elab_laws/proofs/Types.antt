@@ -30,7 +30,7 @@ use Rattle.gb_names.specs.Allowed.{is_distribution, is_distribution_layer}
 use Rattle.gb_names.specs.Names.{no_declared, path}
 use Rattle.gb_names.specs.Types.{Spelling, plain_type, up_to, bits_type, int_type, option_type, map_type, all_spelled, tuple_of, tuple_type, declared_type, words, spelling, spelled, type_of}
 use Rattle.gb_elab_laws.specs.Fitting.{AreTypes}
-use Rattle.gb_elab_laws.proofs.Given.{given_bind, given_is, if_refused, some_given}
+use Rattle.gb_elab_laws.proofs.Given.{given_bind, given_is, if_refused, some_given, not_given}
 use Rattle.gb_names.proofs.Nodes.{by_parts}
 
 pub have_finite : (vs : List TypedName) → HaveVariableTypes vs → HaveFiniteTypes vs
@@ -174,7 +174,7 @@ of_parts head.MapType x ks q ds n at u h = maps_typed ds n ks at u h
 of_parts head.ProductType x ks q ds n at u h = tuples_typed ds n ks at u h
 of_parts head.Name x ks q ds n at u h = named_typed ds n x q u h
 of_parts head.Path x ks q ds n at u h = named_typed ds n (path (words (parts ks))) q u h
-of_parts _ x _ q ds n at u h = cc
+of_parts _ x _ q ds n at u h = absurd (not_given _ _ u h)
 
 all_of_variables : (t : Node) → IsOfVariables (spelled t)
 unfolding spelled

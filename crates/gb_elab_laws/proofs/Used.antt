@@ -65,7 +65,7 @@ use Rattle.gb_elab_laws.proofs.Fits.{goal_fits}
 use Rattle.gb_elab_laws.proofs.Forms.{elaborated_typed}
 use Rattle.gb_elab_laws.proofs.Remembered.{IsNamedMemory, memory_is}
 use Rattle.gb_elab_laws.proofs.AboutNamed.{local_stands, memory_typed}
-use Rattle.gb_elab_laws.proofs.Given.{given_bind, given_is, if_refused, if_unbuilt, none_some, same_some}
+use Rattle.gb_elab_laws.proofs.Given.{given_bind, given_is, if_refused, if_unbuilt, none_some, same_some, not_given}
 use Rattle.gb_elab_laws.proofs.Shapes.{value_form}
 
 -- what comes of a thing that is there
@@ -136,9 +136,9 @@ module _ (ds : scope.Declarations) (scoped : IsTypedScope (declared ds)) (q : Se
 
   pub memory_named : (h : Kind) (ps : List Node) (p : Place) (s : Side) → memory_of ds q h ps p ≡ given s → IsNamed s
   memory_named text.Memory (n ∷ []) p s e = named_is s (memory_is here (ambient ds q) [] (goal_fits ds scoped q t) refl (text_of n) (place_of n) s e)
-  memory_named text.Memory [] p s e = cc
-  memory_named text.Memory (n ∷ m ∷ ps) p s e = cc
-  memory_named _ ps p s e = cc
+  memory_named text.Memory [] p s e = absurd (not_given _ _ s e)
+  memory_named text.Memory (n ∷ m ∷ ps) p s e = absurd (not_given _ _ s e)
+  memory_named _ ps p s e = absurd (not_given _ _ s e)
 
   -- what the body of a quantifier over memories says of one of the context is typed
   said_of_memory_typed : (i : ℕ) → IsNamedMemory here (side.Memory i) → (ls : List TypedName) (b : Term) → IsForm (within here memory (Some ls)) b →

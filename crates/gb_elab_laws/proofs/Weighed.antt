@@ -79,7 +79,7 @@ built_in_is : (k : Known) (p : Place) (y : Constant) → built_in_constant k p �
 built_in_is known.True p y h = subst IsConstant {x = record { ty = ty.Bool; number = 1 }} (given_is _ y h) (tt, bool_literal 1 (omega arith))
 built_in_is known.False p y h = subst IsConstant {x = record { ty = ty.Bool; number = 0 }} (given_is _ y h) (tt, bool_literal 0 (omega arith))
 built_in_is known.Unit p y h = subst IsConstant {x = record { ty = ty.Unit; number = 0 }} (given_is _ y h) (tt, unit_literal)
-built_in_is _ p y h = cc
+built_in_is _ p y h = absurd (not_given _ _ y h)
 
 weight_above : (ps : List Pair) (x : Name) (p : Place) (m : ℕ) → weight_in ps x p ≡ given m → nat_lt 0 m ≡ true
 weight_above ps x p m h =
@@ -119,7 +119,7 @@ module _ {globs : Name → Bool} (c : Context) (at : Environment) (vs : List Bin
       let y = new_is t ps (text_of a) (place_of a) k.0 k.1 in
       subst (λ (z : Pair). IsVariableType t × IsWeighed t z) (given_is _ q m.2)
       (subst IsVariableType y.0 y.1.0, (subst (λ u. IsLiteral u (Num k.0.number)) y.0 y.1.1, weight_above ps (text_of n) (place_of n) m.0 m.1))
-  pair_is t ps _ p q h = cc
+  pair_is t ps _ p q h = absurd (not_given _ _ q h)
 
   -- weights behind others
   all_weighed : (t : Ty) (ps : List Pair) (xs : List Node) (qs : List Pair) → AreSome ps → AreWeighed t ps → weighed_all at vs t ps xs ≡ given qs → AreSome qs × AreWeighed t qs

@@ -14,7 +14,7 @@ use Rattle.gb_names.specs.Names.{Target}
 use Rattle.gb_elab.specs.Forms.{elaborated}
 use Rattle.gb_elab_stmt.specs.Calls.{enough, takes, arguments, call_of, in_last, call}
 use Rattle.gb_elab_stmt.specs.Targets.{variables_of}
-use Rattle.gb_elab_laws.proofs.Given.{given_bind, given_is}
+use Rattle.gb_elab_laws.proofs.Given.{given_bind, given_is, not_given}
 use Rattle.gb_print_names.specs.declared.bound_names.Enumeration.{Enumeration}
 use Rattle.gb_print.specs.Written.{is_target_here}
 use Rattle.gb_shown.specs.Named.{IsNamedInstr, IsNamedVariable, IsNamedType}
@@ -40,7 +40,7 @@ module _ (forms : OfForms) (es : List Enumeration) where
   arguments_named : (at : Environment) → IsNamedSetting es at → (qs : List TypedName) → AllByRecursion IsNamedVariable qs → (ts : List Node) → AreRead ts → (us : List Term) → arguments at qs ts ≡ given us → AllNamed es us
   unfolding arguments
   arguments_named at s qs k [] r us e = subst (AllNamed es) (given_is [] us e) tt
-  arguments_named at s [] k (t ∷ ts) r us e = absurd (cc)
+  arguments_named at s [] k (t ∷ ts) r us e = absurd (not_given _ _ us e)
   arguments_named at s (q ∷ qs) k (t ∷ ts) r us e =
       let a = given_bind (elaborated t at [] (Some q.ty)) _ us e in
       let b = given_bind (arguments at qs ts) _ us a.2 in

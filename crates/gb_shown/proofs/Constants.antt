@@ -40,7 +40,7 @@ use Rattle.gb_shown.specs.Named.{IsNamedType, IsNamed}
 use Rattle.gb_shown.proofs.SpeltTrees.{node_named}
 use Rattle.gb_shown.specs.Scopes.{IsNamedScope, IsNamedWanted}
 use Rattle.gb_shown.specs.Trees.{IsFull}
-use Rattle.gb_shown.proofs.Given.{given_bind, given_is, if_allowed}
+use Rattle.gb_shown.proofs.Given.{given_bind, given_is, if_allowed, not_given}
 use Rattle.gb_shown.proofs.Types.{as_result, as_type, distribution_named, written_named}
 use Rattle.gb_shown.proofs.FoundInForms.{path_of}
 use Rattle.gb_shown.proofs.Spelled.{spelled_good}
@@ -135,19 +135,19 @@ module _ (es : List Enumeration) where
         let good = (spelled_good es at.declared scope s full t.0 t.1).0 in
         subst (IsNamed es) (given_is d u j.1)
         (node_named es (Builtin op.Uniform) [] (ty.Distr t.0) (subst (IsWrittenType 0 []) (sym (layout_outcome t.0)) good) (distribution_named t.0 (written_named t.0 good)) tt)
-    uniform_named scope _ full w p u e = cc
+    uniform_named scope _ full w p u e = absurd (not_given _ _ u e)
 
   -- a built-in name alone
   pub constant_named : (k : Known) (w : Option Ty) (p : Place) → IsNamedWanted w → (u : Term) → constant k w p ≡ given u → IsNamed es u
   constant_named known.True w p f u e = wanted_named w p (truth_literal true) u (truth_named true) e
   constant_named known.False w p f u e = wanted_named w p (truth_literal false) u (truth_named false) e
   constant_named known.Unit w p f u e = wanted_named w p unit u unit_named e
-  constant_named known.None None p f u e = cc
+  constant_named known.None None p f u e = absurd (not_given _ _ u e)
   constant_named known.None (Some t) p f u e =
       let k = if_allowed (is_some (inside_option t)) (given (applied op.None [] t)) TypeMismatch p u e in
       subst (IsNamed es) (given_is (applied op.None [] t) u k.1) (node_named es (Builtin op.None) [] t (as_type (λ x. is_some (option_layer x)) (λ _. refl) t f k.0) f tt)
-  constant_named known.Empty None p f u e = cc
+  constant_named known.Empty None p f u e = absurd (not_given _ _ u e)
   constant_named known.Empty (Some t) p f u e =
       let k = if_allowed (is_some (entries t)) (given (applied op.Empty [] t)) TypeMismatch p u e in
       subst (IsNamed es) (given_is (applied op.Empty [] t) u k.1) (node_named es (Builtin op.Empty) [] t (as_type (λ x. is_some (entries_layer x)) (λ _. refl) t f k.0) f tt)
-  constant_named _ w p f u e = cc
+  constant_named _ w p f u e = absurd (not_given _ _ u e)

@@ -21,7 +21,7 @@ use Rattle.gb_elab_prog.specs.declared.context.Bound.{Bound}
 use Rattle.gb_elab_prog.specs.Contexts.{nothing_around, nothing_bound, taken}
 use Rattle.gb_elab_prog.specs.Operators.{of_body, parameters, all_parameters, written, body, defined, undefined, operator_entry}
 use Rattle.gb_elab_prog.specs.Sizes.{small}
-use Rattle.gb_elab_laws.proofs.Given.{given_bind, given_is, if_refused}
+use Rattle.gb_elab_laws.proofs.Given.{given_bind, given_is, if_refused, not_given}
 use Rattle.gb_print_names.specs.declared.bound_names.Enumeration.{Enumeration}
 use Rattle.gb_shown.specs.Named.{IsNamed, IsNamedType}
 use Rattle.gb_shown.proofs.SpeltForms.{as_result}
@@ -55,10 +55,10 @@ module _ (forms : OfForms) (es : List Enumeration) (ds : Declarations) (k : IsNa
       let a = given_bind (taken b.names (parts_of xs)) _ c e in
       let d = given_bind (type_or_number ds t) _ c a.2 in
       subst (λ (z : Bound). AreTyped z.values) (given_is _ c d.2) (all_append (λ (v : TypedName). IsNamedType v.ty) b.values _ l (of_type_typed (parts_of xs) d.0 (forms.number es ds k t r.1.0 d.0 d.1)))
-  parameters_typed b l head.Variables [] r p c e = absurd (cc)
-  parameters_typed b l head.Variables (x ∷ []) r p c e = absurd (cc)
-  parameters_typed b l head.Variables (x ∷ t ∷ u ∷ ps) r p c e = absurd (cc)
-  parameters_typed b l _ ps r p c e = absurd (cc)
+  parameters_typed b l head.Variables [] r p c e = absurd (not_given _ _ c e)
+  parameters_typed b l head.Variables (x ∷ []) r p c e = absurd (not_given _ _ c e)
+  parameters_typed b l head.Variables (x ∷ t ∷ u ∷ ps) r p c e = absurd (not_given _ _ c e)
+  parameters_typed b l _ ps r p c e = absurd (not_given _ _ c e)
 
   all_typed : (b : Bound) → AreTyped b.values → (xs : List Node) → AreRead xs → (c : Bound) → all_parameters ds b xs ≡ given c → AreTyped c.values
   unfolding all_parameters
@@ -110,23 +110,23 @@ module _ (forms : OfForms) (es : List Enumeration) (ds : Declarations) (k : IsNa
       let a = given_bind (all_given (map (type_of ds) ts)) _ x e in
       let b = given_bind (type_or_number ds t) _ x a.2 in
       subst (IsNamedEntry es) (given_is _ x b.2) (all_types ts r a.0 a.1, forms.number es ds k t q.0 b.0 b.1)
-  undefined_named ts [] r q p x e = absurd (cc)
-  undefined_named ts (t ∷ u ∷ rs) r q p x e = absurd (cc)
+  undefined_named ts [] r q p x e = absurd (not_given _ _ x e)
+  undefined_named ts (t ∷ u ∷ rs) r q p x e = absurd (not_given _ _ x e)
 
   -- what an operator's name stands for
   pub operator_entry_named : (h : Head) (ps : List Node) → AreRead ps → (p : Place) (x : Entry) → operator_entry ds h ps p ≡ given x → IsNamedEntry es x
   operator_entry_named head.DefinedOperator (g ∷ w ∷ t ∷ []) r p x e = defined_named (parts_of g) (parts_of w) t (parts_read g r.0) (parts_read w r.1.0) r.1.1.0 x e
-  operator_entry_named head.DefinedOperator [] r p x e = absurd (cc)
-  operator_entry_named head.DefinedOperator (g ∷ []) r p x e = absurd (cc)
-  operator_entry_named head.DefinedOperator (g ∷ w ∷ []) r p x e = absurd (cc)
-  operator_entry_named head.DefinedOperator (g ∷ w ∷ t ∷ u ∷ ps) r p x e = absurd (cc)
+  operator_entry_named head.DefinedOperator [] r p x e = absurd (not_given _ _ x e)
+  operator_entry_named head.DefinedOperator (g ∷ []) r p x e = absurd (not_given _ _ x e)
+  operator_entry_named head.DefinedOperator (g ∷ w ∷ []) r p x e = absurd (not_given _ _ x e)
+  operator_entry_named head.DefinedOperator (g ∷ w ∷ t ∷ u ∷ ps) r p x e = absurd (not_given _ _ x e)
   operator_entry_named head.Constant (t ∷ []) r p x e = defined_named [] [] t tt tt r.0 x e
-  operator_entry_named head.Constant [] r p x e = absurd (cc)
-  operator_entry_named head.Constant (t ∷ u ∷ ps) r p x e = absurd (cc)
+  operator_entry_named head.Constant [] r p x e = absurd (not_given _ _ x e)
+  operator_entry_named head.Constant (t ∷ u ∷ ps) r p x e = absurd (not_given _ _ x e)
   operator_entry_named head.TypedConstant (w ∷ t ∷ []) r p x e = defined_named [] (w ∷ []) t tt (r.0, tt) r.1.0 x e
-  operator_entry_named head.TypedConstant [] r p x e = absurd (cc)
-  operator_entry_named head.TypedConstant (w ∷ []) r p x e = absurd (cc)
-  operator_entry_named head.TypedConstant (w ∷ t ∷ u ∷ ps) r p x e = absurd (cc)
+  operator_entry_named head.TypedConstant [] r p x e = absurd (not_given _ _ x e)
+  operator_entry_named head.TypedConstant (w ∷ []) r p x e = absurd (not_given _ _ x e)
+  operator_entry_named head.TypedConstant (w ∷ t ∷ u ∷ ps) r p x e = absurd (not_given _ _ x e)
   operator_entry_named head.AbstractOperator ts r p x e =
       undefined_named (take (pred (length ts)) ts) (drop (pred (length ts)) ts) (take_read (pred (length ts)) ts r) (drop_read (pred (length ts)) ts r) p x e
-  operator_entry_named _ ps r p x e = absurd (cc)
+  operator_entry_named _ ps r p x e = absurd (not_given _ _ x e)

@@ -135,7 +135,7 @@ module _ (es : List Enumeration) (at : Environment) (fit : IsNamedSetting es at)
   equation_named head.Name x ns p u h = equality_named x p u h
   equation_named head.Path x ns p u h = equality_named (path ns) p u h
   equation_named head.EquatedGlob x (m ∷ []) p u h = same_globals_named m u h
-  equation_named _ x _ p u h = cc
+  equation_named _ x _ p u h = absurd (not_given _ _ u h)
 
   abbrev each_equation : (x : Node) (u : Term) → equation_of at bs x ≡ given u → IsNamed es u
   each_equation x = equation_named (head_of x) (text_of x) (parts_of x) (place_of x)

@@ -37,7 +37,7 @@ use Rattle.gb_terms.specs.Make.{node, truth_literal}
 use Rattle.std.proofs.Common.{pos}
 use Rattle.gb_shown.specs.Scopes.{IsNamedLocal, IsNamedProcedureType, IsNamedSetting}
 use Rattle.gb_shown.specs.Laws.{IsNamedReference}
-use Rattle.gb_shown.proofs.Given.{given_bind, given_is, some_given}
+use Rattle.gb_shown.proofs.Given.{given_bind, given_is, some_given, not_given}
 use Rattle.gb_shown.proofs.FoundInForms.{locals_of_variables, path_of}
 use Rattle.gb_shown.proofs.Interfaces.{found_named}
 use Rattle.gb_shown.proofs.NamedModules.{IsNamedKnown, applied_named, complete_written, each_named}
@@ -71,26 +71,26 @@ module _ (es : List Enumeration) where
 
     of_functor_is : (x : Node) (xs ps : List Node) (p : Place) (n : Named) → of_functor at bs x xs ps p ≡ given n → IsNamedReference n
     of_functor_is x xs (ms ∷ f ∷ []) p n e = functor_is x xs (parts_of ms) f p n e
-    of_functor_is x xs _ p n e = cc
+    of_functor_is x xs _ p n e = absurd (not_given _ _ n e)
 
     by_is : (k : Head) (x : Node) (ps : List Node) (p : Place) (n : Named) → procedure_by at bs k x ps p ≡ given n → IsNamedReference n
     by_is head.ProcedurePath x (y ∷ ys) p n e = procedure_is (procedure_path (text_of x) y ys) [] p n e
     by_is head.FunctorPath x ps p n e = of_functor_is x (take (length ps - 2) ps) (drop (length ps - 2) ps) p n e
-    by_is _ x ps p n e = cc
+    by_is _ x ps p n e = absurd (not_given _ _ n e)
 
     pub named_is : (k : Head) (xs : List Node) (p : Place) (n : Named) → named_procedure at bs k xs p ≡ given n → IsNamedReference n
     named_is k (x ∷ ps) p n e = by_is k x ps p n e
-    named_is k [] p n e = cc
+    named_is k [] p n e = absurd (not_given _ _ n e)
 
     -- the procedure that a call names
     pub procedure_called_is : (k : Head) (x : Node) (ps : List Node) (p : Place) (n : Named) → procedure_called at bs k x ps p ≡ given n → IsNamedReference n
     procedure_called_is head.Call x ps p n e = by_is head.ProcedurePath x (in_front ps) p n e
     procedure_called_is head.FunctorCall x ps p n e = by_is head.FunctorPath x (in_front ps) p n e
-    procedure_called_is _ x ps p n e = cc
+    procedure_called_is _ x ps p n e = absurd (not_given _ _ n e)
 
     pub called_is : (k : Head) (xs : List Node) (p : Place) (n : Named) → called at bs k xs p ≡ given n → IsNamedReference n
     called_is k (x ∷ ps) p n e = procedure_called_is k x ps p n e
-    called_is k [] p n e = cc
+    called_is k [] p n e = absurd (not_given _ _ n e)
 
     -- the procedures that a judgment is about
     pub one_is : (f : Node) (p : Place) (n : Named) → one_procedure at bs f p ≡ given n → IsNamedReference n
@@ -159,4 +159,4 @@ module _ (es : List Enumeration) where
       let k = one_is at fit bs f p m.0 m.1 in
       subst (IsNamed es) (given_is (ends m.0.0) u m.2)
       (with_chance_named (record { procedure = m.0.0; pre = truth_literal true; post = truth_literal true }) rel.Equal one (record { procedure = k.written; pre = truth_named es true; post = truth_named es true }) one_named)
-  lossless_named at fit bs _ p u h = cc
+  lossless_named at fit bs _ p u h = absurd (not_given _ _ u h)

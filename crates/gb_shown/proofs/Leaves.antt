@@ -211,7 +211,7 @@ module _ (es : List Enumeration) where
 
       -- all globals of a module that aren't compared
       pub whole_alone_named : (o : Option Seen) (p : Place) (u : Term) → whole_alone at bs o p ≡ given u → IsNamed es u
-      whole_alone_named None p u e = cc
+      whole_alone_named None p u e = absurd (not_given _ _ u e)
       whole_alone_named (Some w) p u e = let r = given_bind (whole_read at bs w) (λ m. as_value at.declared m p) u e in as_value_named r.0 p u r.2
 
       -- a form with a side
@@ -219,7 +219,7 @@ module _ (es : List Enumeration) where
       form_read head.Name x ns p s u h = beside_read (head_of s) s x p u h
       form_read head.Path x ns p s u h = beside_read (head_of s) s (path ns) p u h
       form_read head.Glob x ns p s u h = whole_alone_named (bare_glob ns (Some s) p) p u h
-      form_read _ x ns p s u h = cc
+      form_read _ x ns p s u h = absurd (not_given _ _ u h)
 
     -- what a statement writes
     abbrev pub IsNamedTarget : Target → Type 0

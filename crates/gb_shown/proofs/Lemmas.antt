@@ -25,7 +25,7 @@ use Rattle.gb_elab_prog.specs.Fresh.{free}
 use Rattle.gb_elab_prog.specs.ModuleTypes.{module_type_at}
 use Rattle.gb_elab_prog.specs.Sizes.{small}
 use Rattle.gb_elab_mod.specs.Lemmas.{claimed, stated, statement_by, statement_given}
-use Rattle.gb_elab_laws.proofs.Given.{given_bind, given_is, if_given, some_given}
+use Rattle.gb_elab_laws.proofs.Given.{given_bind, given_is, if_given, some_given, not_given}
 use Rattle.gb_print_names.specs.declared.bound_names.Enumeration.{Enumeration}
 use Rattle.gb_print.specs.Written.{is_name_text, is_path}
 use Rattle.gb_shown.specs.Named.{IsNamed, IsNamedVariable, IsNamedBind}
@@ -88,20 +88,20 @@ module _ (forms : OfForms) (es : List Enumeration) (ds : Declarations) (k : IsNa
 
   binder_named : (b : Bound) → IsNamedBound b → (h : Head) (ps : List Node) → HasItsNames h ps → AreRead ps → (p : Place) (c : Bound) → bound_by ds b h ps p ≡ given c → IsNamedBound c
   binder_named b l head.Values (x ∷ xs ∷ t ∷ []) n r p c e = values_named b l x (parts_of xs) t n.0 n.1 r.1.1.0 c e
-  binder_named b l head.Values [] n r p c e = absurd (cc)
-  binder_named b l head.Values (x ∷ []) n r p c e = absurd (cc)
-  binder_named b l head.Values (x ∷ xs ∷ []) n r p c e = absurd (cc)
-  binder_named b l head.Values (x ∷ xs ∷ t ∷ u ∷ ps) n r p c e = absurd (cc)
+  binder_named b l head.Values [] n r p c e = absurd (not_given _ _ c e)
+  binder_named b l head.Values (x ∷ []) n r p c e = absurd (not_given _ _ c e)
+  binder_named b l head.Values (x ∷ xs ∷ []) n r p c e = absurd (not_given _ _ c e)
+  binder_named b l head.Values (x ∷ xs ∷ t ∷ u ∷ ps) n r p c e = absurd (not_given _ _ c e)
   binder_named b l head.Memory (x ∷ []) n r p c e = memory_named b l x n c e
-  binder_named b l head.Memory [] n r p c e = absurd (cc)
-  binder_named b l head.Memory (x ∷ y ∷ ps) n r p c e = absurd (cc)
+  binder_named b l head.Memory [] n r p c e = absurd (not_given _ _ c e)
+  binder_named b l head.Memory (x ∷ y ∷ ps) n r p c e = absurd (not_given _ _ c e)
   binder_named b l head.ModuleBind (x ∷ t ∷ ms ∷ qs ∷ []) n r p c e = module_named b l x n t (parts_of ms) (parts_of qs) c e
-  binder_named b l head.ModuleBind [] n r p c e = absurd (cc)
-  binder_named b l head.ModuleBind (x ∷ []) n r p c e = absurd (cc)
-  binder_named b l head.ModuleBind (x ∷ t ∷ []) n r p c e = absurd (cc)
-  binder_named b l head.ModuleBind (x ∷ t ∷ ms ∷ []) n r p c e = absurd (cc)
-  binder_named b l head.ModuleBind (x ∷ t ∷ ms ∷ qs ∷ y ∷ ps) n r p c e = absurd (cc)
-  binder_named b l _ ps n r p c e = absurd (cc)
+  binder_named b l head.ModuleBind [] n r p c e = absurd (not_given _ _ c e)
+  binder_named b l head.ModuleBind (x ∷ []) n r p c e = absurd (not_given _ _ c e)
+  binder_named b l head.ModuleBind (x ∷ t ∷ []) n r p c e = absurd (not_given _ _ c e)
+  binder_named b l head.ModuleBind (x ∷ t ∷ ms ∷ []) n r p c e = absurd (not_given _ _ c e)
+  binder_named b l head.ModuleBind (x ∷ t ∷ ms ∷ qs ∷ y ∷ ps) n r p c e = absurd (not_given _ _ c e)
+  binder_named b l _ ps n r p c e = absurd (not_given _ _ c e)
 
   all_named : (b : Bound) → IsNamedBound b → (xs : List Node) → AreRead xs → (c : Bound) → all_bound ds b xs ≡ given c → IsNamedBound c
   unfolding all_bound
@@ -129,11 +129,11 @@ module _ (forms : OfForms) (es : List Enumeration) (ds : Declarations) (k : IsNa
 
   by_head : (h : Head) (ps : List Node) → AreRead ps → (p : Place) (q : Sequent) → statement_by ds h ps p ≡ given q → IsNamedStatement es q
   by_head head.Lemma (x ∷ bs ∷ t ∷ []) r p q e = stated_named x (parts_of bs) t (parts_read bs r.1.0) r.1.1.0 q e
-  by_head head.Lemma [] r p q e = absurd (cc)
-  by_head head.Lemma (x ∷ []) r p q e = absurd (cc)
-  by_head head.Lemma (x ∷ bs ∷ []) r p q e = absurd (cc)
-  by_head head.Lemma (x ∷ bs ∷ t ∷ u ∷ ps) r p q e = absurd (cc)
-  by_head _ ps r p q e = absurd (cc)
+  by_head head.Lemma [] r p q e = absurd (not_given _ _ q e)
+  by_head head.Lemma (x ∷ []) r p q e = absurd (not_given _ _ q e)
+  by_head head.Lemma (x ∷ bs ∷ []) r p q e = absurd (not_given _ _ q e)
+  by_head head.Lemma (x ∷ bs ∷ t ∷ u ∷ ps) r p q e = absurd (not_given _ _ q e)
+  by_head _ ps r p q e = absurd (not_given _ _ q e)
 
   -- the statement of a lemma
   pub statement_is_named : (t : Node) → IsReadTree t → (q : Sequent) → statement_given ds t ≡ given q → IsNamedStatement es q

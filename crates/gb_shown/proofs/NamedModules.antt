@@ -20,7 +20,7 @@ use Rattle.gb_names.proofs.Nodes.{Known as KnownNode, by_parts, parts, said}
 use Rattle.gb_print_names.specs.declared.bound_names.Enumeration.{Enumeration}
 use Rattle.gb_print.specs.Written.{is_path, IsWrittenModule}
 use Rattle.gb_shown.specs.Scopes.{IsNamedInterface, IsNamedSetting}
-use Rattle.gb_shown.proofs.Given.{given_bind, given_is, if_allowed, if_refused, some_given}
+use Rattle.gb_shown.proofs.Given.{given_bind, given_is, if_allowed, if_refused, some_given, not_given}
 use Rattle.gb_shown.proofs.Instances.{EachWritten, both_written, more_written, name_written}
 use Rattle.gb_shown.proofs.Interfaces.{name_known}
 
@@ -42,7 +42,7 @@ module _ (es : List Enumeration) (at : Environment) (fit : IsNamedSetting es at)
   fitting_written q k p n m e = let z = given_bind (meets_named at.declared at.inside k q.ty p) (λ _. given k.0) m e in subst (IsWrittenModule []) (given_is k.0 m z.2) n.written
 
   next_written : (ms : List Mexp) (qs : List Param) (t : Node × Reading) → IsRight t.1 → EachWritten ms → (g : Given) → next_given at bound ms qs t ≡ given g → EachWritten g.0
-  next_written ms [] t r w g e = cc
+  next_written ms [] t r w g e = absurd (not_given _ _ g e)
   next_written ms (q ∷ qs) t r w g e =
       let z = given_bind (t.1 at bound) (λ k. fitting at q k (place_of t.0) >>= λ m. given (ms ++ m ∷ [], qs)) g e in
       let y = given_bind (fitting at q z.0 (place_of t.0)) (λ m. given (ms ++ m ∷ [], qs)) g z.2 in

@@ -27,7 +27,7 @@ use Rattle.gb_shown.specs.Named.{IsNamedType, IsNamed}
 use Rattle.gb_shown.proofs.SpeltTrees.{node_named}
 use Rattle.gb_shown.specs.Scopes.{IsNamedScope, IsNamedKind, AreNamedBindings}
 use Rattle.gb_shown.specs.Trees.{IsFull}
-use Rattle.gb_shown.proofs.Given.{given_bind, given_is}
+use Rattle.gb_shown.proofs.Given.{given_bind, given_is, not_given}
 use Rattle.gb_shown.proofs.Spelled.{spelled_named}
 
 both_bound : (us vs : List Binding) → AreNamedBindings us → AreNamedBindings vs → AreNamedBindings (us ++ vs)
@@ -57,8 +57,8 @@ module _ (es : List Enumeration) where
         let u = given_bind (type_of at.declared t) (λ u. given (values (x ∷ parts_of xs) u)) vs n.2 in
         subst AreNamedBindings (given_is (values (x ∷ parts_of xs) u.0) vs u.2) (values_bound (x ∷ parts_of xs) u.0 (spelled_named es at.declared scope t full u.0 u.1))
     bind_named ws head.Memory (x ∷ []) f p vs h = memory_named ws x p vs h
-    bind_named ws head.ModuleBind (x ∷ xs) f p vs h = cc
-    bind_named ws _ _ f p vs h = cc
+    bind_named ws head.ModuleBind (x ∷ xs) f p vs h = absurd (not_given _ _ vs h)
+    bind_named ws _ _ f p vs h = absurd (not_given _ _ vs h)
 
     parts_full : (x : Node) → Each IsFull x → EachOf IsFull (parts_of x)
     parts_full x (each f g) = g

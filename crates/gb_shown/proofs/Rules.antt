@@ -55,7 +55,7 @@ use Rattle.gb_elab_mod.specs.Steps.{conclusion_rule, formed, asked_of, value_wit
 use Rattle.gb_elab_mod.specs.Taken.{new_name}
 use Rattle.gb_elab_mod.specs.Uses.{all_hinted, defined_operator, hypothesis, is_memory, memory_of, used}
 use Rattle.gb_elab_prog.specs.Unbuilt.{absent}
-use Rattle.gb_elab_laws.proofs.Given.{given_bind, given_is}
+use Rattle.gb_elab_laws.proofs.Given.{given_bind, given_is, not_given}
 use Rattle.gb_print_names.specs.declared.bound_names.Enumeration.{Enumeration}
 use Rattle.gb_print.specs.Written.{is_name_text}
 use Rattle.gb_shown.specs.Named.{IsNamedHead, IsNamed, IsNamedGoal, IsNamedSequent}
@@ -75,7 +75,7 @@ use Rattle.gb_shown.proofs.BodyRules.{truth_named, formed_named, params_local, r
 
 -- what isn't built is not given
 none_built : {A : Type 0} {B : Type 0} (p : Place) (x : A) → not_built p ≡ given x → B
-none_built p x e = absurd (cc)
+none_built p x e = absurd (not_given _ _ x e)
 
 -- one of several rules by their names
 choice : {A : Type 0} (P : A → Type 0) (b : Bool) (x : A) (a : Answer A) (y : A) → P x → (a ≡ given y → P y) → (if b then given x else a) ≡ given y → P y

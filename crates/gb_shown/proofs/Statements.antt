@@ -31,7 +31,7 @@ use Rattle.gb_elab.specs.Forms.{elaborated}
 use Rattle.gb_elab_stmt.specs.Statements.{sampling, assignment, tuple_assignment, words, written, result_to, called_to, result_in, results_in, written_to, entry_stored, stored, instruction, Stating, all_stated, branch, counts_down, variant, turning, alone, single, begun, stating, stated, with_statings}
 use Rattle.gb_elab_stmt.specs.Targets.{roomy, once, next_target, targets, type_of_all, variables_of, spelled_by}
 use Rattle.gb_elab_stmt.proofs.Stated.{stated_is}
-use Rattle.gb_elab_laws.proofs.Given.{given_bind, given_is, if_given, some_given}
+use Rattle.gb_elab_laws.proofs.Given.{given_bind, given_is, if_given, some_given, not_given}
 use Rattle.gb_print_names.specs.declared.bound_names.Enumeration.{Enumeration}
 use Rattle.gb_print.specs.Written.{is_target_here, is_variable_here, are_targets_here}
 use Rattle.gb_shown.specs.Named.{IsNamed, IsNamedInstr, IsNamedType, IsNamedResult}
@@ -215,7 +215,7 @@ module _ (forms : OfForms) (es : List Enumeration) where
     variant_named (v ∷ ts) r p f e =
         let a = given_bind (elaborated v at [] None) _ f e in
         subst (IsNamed es) (if_given (counts_down a.0) a.0 TypeMismatch (place_inside v) f a.2).1 (forms.form es at s [] tt None tt v r.0 a.0 a.1)
-    variant_named [] r p f e = absurd (cc)
+    variant_named [] r p f e = absurd (not_given _ _ f e)
 
   -- statements, in each named setting
   abbrev pub AreNamedIn : Stating → Type 0

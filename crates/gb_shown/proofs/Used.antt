@@ -37,7 +37,7 @@ use Rattle.gb_elab_mod.specs.Multiples.{no_such}
 use Rattle.gb_elab_mod.specs.OtherLocals.{reads_other_locals}
 use Rattle.gb_elab_mod.specs.Taken.{is_taken}
 use Rattle.gb_elab_mod.specs.Uses.{hypothesis_named, is_memory, value_of, memory_of, about_named, said_of, said_of_all, name_of, about_value, about_memory, about_all, about_statement, by_modules, inside, module_given, modules_given, other_arguments, other_binders, said_about, said_by, said_of_modules, said_on, said_plainly, said_with_modules, with_given, lemma_named, used_named, used_at, used, hypothesis}
-use Rattle.gb_elab_laws.proofs.Given.{given_bind, given_is, if_none, if_refused, if_unbuilt, none_some, same_some, some_given}
+use Rattle.gb_elab_laws.proofs.Given.{given_bind, given_is, if_none, if_refused, if_unbuilt, none_some, same_some, some_given, not_given}
 use Rattle.gb_print_names.specs.declared.bound_names.Enumeration.{Enumeration}
 use Rattle.gb_print.specs.Written.{IsWrittenModule}
 use Rattle.gb_shown.specs.Named.{IsNamed, IsNamedType, IsNamedHead, IsNamedHyp, IsNamedVariable, IsNamedSequent}
@@ -55,7 +55,7 @@ use Rattle.gb_shown.proofs.Settings.{ambient_named}
 use Rattle.gb_shown.proofs.Trees.{AreRead, parts_read}
 
 none_built : {A : Type 0} (p : Place) (x : A) → not_built p ≡ given x → ⊥
-none_built p x e = cc
+none_built p x e = absurd (not_given _ _ x e)
 
 module _ (forms : OfForms) (es : List Enumeration) (ds : Declarations) (k : IsNamedScope es ds) (q : Sequent) (n : IsNamedSequent es q) where
   abbrev Named : Term → Type 0
@@ -82,14 +82,14 @@ module _ (forms : OfForms) (es : List Enumeration) (ds : Declarations) (k : IsNa
   said_named (head.All u) (b ∷ []) v x y a r g e =
       let t = given_bind (value_of ds q u a) _ g e in
       subst Named (given_is _ g t.2) (changed_named es b (OfBound 0 t.0 ∷ []) (value_named u x a r t.0 t.1, tt) y.0)
-  said_named (head.All u) [] v x y a r g e = absurd (cc)
-  said_named (head.All u) (b ∷ c ∷ ts) v x y a r g e = absurd (cc)
+  said_named (head.All u) [] v x y a r g e = absurd (not_given _ _ g e)
+  said_named (head.All u) (b ∷ c ∷ ts) v x y a r g e = absurd (not_given _ _ g e)
   said_named head.AllMemory (b ∷ []) v x y a r g e =
       let s = given_bind (memory_of ds q (head_of a) (parts_of a) (place_of a)) _ g e in
       subst Named (if_unbuilt (reads_other_locals false q s.0 (about_named b s.0)) (place_of a) (about_named b s.0) g s.2).1 (about_named_named b s.0 y.0)
-  said_named head.AllMemory [] v x y a r g e = absurd (cc)
-  said_named head.AllMemory (b ∷ c ∷ ts) v x y a r g e = absurd (cc)
-  said_named _ ts v x y a r g e = absurd (cc)
+  said_named head.AllMemory [] v x y a r g e = absurd (not_given _ _ g e)
+  said_named head.AllMemory (b ∷ c ∷ ts) v x y a r g e = absurd (not_given _ _ g e)
+  said_named _ ts v x y a r g e = absurd (not_given _ _ g e)
 
   all_said : (f : Term) → Named f → (xs : List Node) → AreRead xs → (g : Term) → said_of_all ds q f xs ≡ given g → Named g
   unfolding said_of_all

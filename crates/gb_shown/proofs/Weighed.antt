@@ -56,7 +56,7 @@ module _ (es : List Enumeration) where
   built_in_word known.True p y h = subst IsWord {x = record { ty = ty.Bool; number = 1 }} (given_is _ y h) (tt, ap (λ x. is_word_here es x 1) out_bool)
   built_in_word known.False p y h = subst IsWord {x = record { ty = ty.Bool; number = 0 }} (given_is _ y h) (tt, ap (λ x. is_word_here es x 0) out_bool)
   built_in_word known.Unit p y h = subst IsWord {x = record { ty = ty.Unit; number = 0 }} (given_is _ y h) (tt, ap (λ x. is_word_here es x 0) out_unit)
-  built_in_word _ p y h = cc
+  built_in_word _ p y h = absurd (not_given _ _ y h)
 
   abbrev AreHere : Ty → List Pair → Type 0
   AreHere t ps = list_all (is_weight_here es t) ps ≡ true
@@ -95,7 +95,7 @@ module _ (es : List Enumeration) where
         let word : written.has_word es t (out-Value (Num k.0.number)) ≡ true =
         ap (written.has_word es t) (out_num k.0.number) ∙ subst (λ u. is_word_here es (out-Ty u) k.0.number ≡ true) y.0 y.1.1 in
         subst (λ (z : Pair). IsNamedType t × (is_weight_here es t z ≡ true)) (given_is _ q m.2) (subst IsNamedType y.0 y.1.0, both_true word (weight_range ps (text_of n) (place_of n) m.0 m.1))
-    pair_here t ps _ p q h = cc
+    pair_here t ps _ p q h = absurd (not_given _ _ q h)
 
     -- weights behind others
     all_weighed : (t : Ty) (p : Pair) (ps : List Pair) (xs : List Node) (qs : List Pair) → IsNamedType t → AreHere t (p ∷ ps) → weighed_all at bs t (p ∷ ps) xs ≡ given qs → IsNamed es (stated t qs)
